@@ -2,12 +2,12 @@
 use Rattle.std.proofs.Common.{◌≡◌, ℕ, Bool, true, false, List, [], ◌∷◌, ◌++◌, refl, sym, ap, ◌∙◌, subst, append_assoc, append-nil}
 use Rattle.std.specs.Prelude.{if◌then◌else◌, MatchBool, Option, Some, None}
 use Rattle.std.specs.List.{AllByRecursion}
-use Rattle.hall_model.specs.Calls.{who_of}
+use Rattle.hall_model.specs.Calls.{who_of, post_of, take_of}
 use Rattle.hall_model.specs.declared.command.Who.TheVariants as caller
-use Rattle.order_workers.specs.Orders.{Begins, Does, Drops, Ends, Goes, LastDone, Rests, Stops, Turns, Untaken, other, post_of, take_of}
+use Rattle.order_workers.specs.Orders.{Begins, Does, Drops, Ends, Goes, LastDone, Rests, Stops, Turns, Untaken, other}
 use Rattle.order_workers.specs.Orders.{Leads, Made, Stays, Then}
-use Rattle.order_workers.specs.declared.worker.Part.{Part}
-use Rattle.order_workers.specs.declared.worker.Part.TheVariants.{V1, V2}
+use Rattle.ledger_steps.specs.declared.part.Part.{Part}
+use Rattle.ledger_steps.specs.declared.part.Part.TheVariants.{V1, V2}
 use Rattle.script_actors.specs.Actors.{full_after, is_full}
 use Rattle.caller_laws.specs.Doing.{NoIdlePosts, NoneFull, is_idle_post}
 use Rattle.caller_laws.proofs.Everywhere.{all_append, all_back, all_front}

@@ -10,7 +10,7 @@ use Rattle.hall_model.specs.Calls.{call_of}
 use Rattle.hall_model.specs.declared.command.Command.{Command}
 use Rattle.hall_model.specs.declared.command.Reply.TheVariants as reply
 use Rattle.hall_model.specs.Devices.{AllWell, BackupFails, DeviceOutcome, Event, FindsBad, FindsBadStore, LinkFails, MeetsWant, NotRemade, Reading, RemakeFault, StoreFails, Wanting, fault_told, found_by}
-use Rattle.hall_model.specs.History.{doubted, losing, noted, pending_after, refused, step}
+use Rattle.hall_model.specs.History.{doubted, in_flight_after, losing, noted, refused, step}
 use Rattle.hall_model.specs.State.{State, doubt_in}
 use Rattle.hall_model.specs.Step.{call_verdict}
 use Rattle.script_runner.specs.Faults.{answer_at}
@@ -42,8 +42,8 @@ no_failure s t (inr (inr h)) = absurd (let wrong : false ≡ true = h.0 in cc)
 store_failed : (reading : Reading) (lost : Bool) (s : State) (n : ℕ) (c : Command)
     → IsFailed s refusal.StoreFault (step (record { event = StoreFails; reading = reading; lost = lost }) s n c).state
 store_failed reading lost s n c =
-    let pending = pending_after reading s (call_of c) (call_verdict (found_by reading s) s (call_of c)) in
-    by_stock (λ call t. IsFailed s refusal.StoreFault (noted n c false (losing lost (refused (doubted t call None pending) refusal.StoreFault))).state) s
+    let in_flight = in_flight_after reading s (call_of c) (call_verdict (found_by reading s) s (call_of c)) in
+    by_stock (λ call t. IsFailed s refusal.StoreFault (noted n c false (losing lost (refused (doubted t call None in_flight) refusal.StoreFault))).state) s
     (λ name parts stock. record { doubt = refl; answer = last_call s.past _ })
     (λ call. record { doubt = refl; answer = last_call s.past _ })
     (call_of c)

@@ -31,11 +31,11 @@ use Rattle.update_records.specs.declared.records.MarkKind.TheVariants as mark
 use Rattle.hall_model.specs.declared.command.Command.{Command}
 use Rattle.hall_model.specs.declared.command.Session.{Session}
 use Rattle.hall_model.specs.Devices.{DeviceOutcome, Reading, found_by}
-use Rattle.hall_model.specs.History.{is_unread, judged, pending_after, served, takes_flight}
+use Rattle.hall_model.specs.History.{in_flight_after, is_unread, judged, served, takes_flight}
 use Rattle.hall_model.specs.Kept.{IsDrawn, IsSteady}
 use Rattle.hall_model.specs.Numbers.{drawn, next_number, raised_to}
 use Rattle.hall_model.specs.Calls.{Call, call_of, only_reads}
-use Rattle.hall_model.specs.OpenUnits.{HoldsOpenUnits, OfPending}
+use Rattle.hall_model.specs.OpenUnits.{HoldsOpenUnits, OfInFlight}
 use Rattle.hall_model.specs.Recall.{IsModelAnswer, Made, recalled, state_after}
 use Rattle.hall_model.specs.Sessions.{is_called, session_at, unit_key, with_draw, with_session, without_draws}
 use Rattle.hall_model.specs.State.{State, opened}
@@ -47,7 +47,7 @@ use Rattle.hall_laws.proofs.keeping.DrawnNumbers.{CommitsNone, post_commits_none
 use Rattle.model_laws.proofs.BlockLevels.{blocks}
 use Rattle.hall_laws.proofs.starting.FirstState.{IsFirstTable, first_few, first_open, first_sound, first_steady}
 use Rattle.model_laws.proofs.NotedCalls.{by_noting}
-use Rattle.hall_laws.proofs.keeping.Unchanged.{verdict_pending}
+use Rattle.hall_laws.proofs.keeping.Unchanged.{verdict_in_flight}
 use Rattle.hall_laws.proofs.keeping.UnitsToCome.{open_unheard}
 use Rattle.hall_laws.proofs.keeping.InFlight.{HoldsAll, step_all}
 use Rattle.hall_laws.proofs.open_units.ChangedLocks.{holds_up, while_up}
@@ -132,12 +132,13 @@ agreed_recorded s name x parts stock at fits steady h =
     (may.agree h)
 
 -- what a restart finds in the store
-agreed_anew : (taken : Bool) (stored : Ledger) (pending : Option Ledger) → Agrees stored → OfPending pending Agrees → Agrees (stored_anew taken stored pending)
-agreed_anew false stored pending h flight = h
+agreed_anew : (taken : Bool) (stored : Ledger) (in_flight : Option Ledger) → Agrees stored → OfInFlight in_flight Agrees
+    → Agrees (stored_anew taken stored in_flight)
+agreed_anew false stored in_flight h flight = h
 agreed_anew true stored None h flight = h
 agreed_anew true stored (Some changed) h flight = flight
 
-each-agreed : (found : Found) (s : State) → IsSteady s → Agrees s.stored → OfPending s.pending Agrees
+each-agreed : (found : Found) (s : State) → IsSteady s → Agrees s.stored → OfInFlight s.in_flight Agrees
     → OfEach (λ call v. MayCall s call → Agrees (judged s v).state.stored) found s
 each-agreed found s steady h flight = record {
   refuses = λ call r plain may. h;
@@ -163,18 +164,18 @@ each-agreed found s steady h flight = record {
   fails_over = λ can may. h;
   strays = λ first second none may. h;
   attaches = λ up may. h;
-  restarts = λ off may. agreed_anew (is_taken found.anew) s.stored s.pending h flight;
+  restarts = λ off may. agreed_anew (is_taken found.anew) s.stored s.in_flight h flight;
   cancels = λ unit status can may. agreed_marked s.stored unit mark.Gone (λ units seq key. refl) h;
   reopens = λ unit es here stand may. agreed_marked s.stored unit mark.Again1 (λ units seq key. refl) h;
   reposts = λ unit here may. agreed_marked s.stored unit mark.Again2 (λ units seq key. refl) h;
 }
 
-judged-agreed : (found : Found) (s : State) (call : Call) → MayCall s call → IsSteady s → Agrees s.stored → OfPending s.pending Agrees
+judged-agreed : (found : Found) (s : State) (call : Call) → MayCall s call → IsSteady s → Agrees s.stored → OfInFlight s.in_flight Agrees
     → Agrees (judged s (call_verdict found s call)).state.stored
 judged-agreed found s call may steady h flight =
     by_made (λ call v. Agrees (judged s v).state.stored) found s (each-agreed found s steady h flight) call may
 
-served-agreed : (o : DeviceOutcome) (s : State) (c : Command) → MayCall s (call_of c) → IsSteady s → Agrees s.stored → OfPending s.pending Agrees
+served-agreed : (o : DeviceOutcome) (s : State) (c : Command) → MayCall s (call_of c) → IsSteady s → Agrees s.stored → OfInFlight s.in_flight Agrees
     → Agrees (served o s c).state.stored
 served-agreed o s c may steady h flight =
     by_event (λ r. Agrees r.state.stored) o s c (λ lost done k. k)
@@ -188,17 +189,17 @@ served-agreed o s c may steady h flight =
     (λ read r. h)
 
 -- the change in flight where the store fails
-failing-agreed : (reading : Reading) (s : State) (call : Call) (v : Verdict) → OfPending s.pending Agrees → Agrees (judged s v).state.stored
-    → OfPending (pending_after reading s call v) Agrees
+failing-agreed : (reading : Reading) (s : State) (call : Call) (v : Verdict) → OfInFlight s.in_flight Agrees → Agrees (judged s v).state.stored
+    → OfInFlight (in_flight_after reading s call v) Agrees
 failing-agreed reading s call (Refuses r) flight h = flight
 failing-agreed reading s call (Leaves after r) flight h =
-    elim (only_reads call || is_unread reading call) as (λ b. OfPending (if b then s.pending else Some after.stored) Agrees) [ true ↦ flight | false ↦ h ]
+    elim (only_reads call || is_unread reading call) as (λ b. OfInFlight (if b then s.in_flight else Some after.stored) Agrees) [ true ↦ flight | false ↦ h ]
 
-flight-agreed : (o : DeviceOutcome) (s : State) (c : Command) → MayCall s (call_of c) → IsSteady s → Agrees s.stored → OfPending s.pending Agrees
-    → OfPending (served o s c).state.pending Agrees
+flight-agreed : (o : DeviceOutcome) (s : State) (c : Command) → MayCall s (call_of c) → IsSteady s → Agrees s.stored → OfInFlight s.in_flight Agrees
+    → OfInFlight (served o s c).state.in_flight Agrees
 flight-agreed o s c may steady h flight =
-    by_event (λ r. OfPending r.state.pending Agrees) o s c (λ lost done k. k)
-    (λ found. verdict_pending (λ o. OfPending o Agrees) found s (call_of c) flight tt) flight flight
+    by_event (λ r. OfInFlight r.state.in_flight Agrees) o s c (λ lost done k. k)
+    (λ found. verdict_in_flight (λ o. OfInFlight o Agrees) found s (call_of c) flight tt) flight flight
     (λ reading.
     let found = found_by reading s in
     failing-agreed reading s (call_of c) (call_verdict found s (call_of c)) flight (judged-agreed found s (call_of c) may steady h flight))
@@ -210,7 +211,7 @@ record IsReached (s : State) : Type 0 where
   calls : ℕ
   all : HoldsAll calls s
   agreed : Agrees s.stored
-  flight : OfPending s.pending Agrees
+  flight : OfInFlight s.in_flight Agrees
 
 reached_next : (s : State) (m : Made) → IsModelAnswer s m → IsReached s → IsReached (recalled s m)
 reached_next s m answer h =
@@ -225,7 +226,7 @@ reached_next s m answer h =
       calls = h.calls + 1;
       all = step_all h.calls o s m.call.line c answer.allowed h.all;
       agreed = by_noting (λ x. Agrees x.state.stored) m.call.line c (takes_flight o) r agreed agreed;
-      flight = by_noting (λ x. OfPending x.state.pending Agrees) m.call.line c (takes_flight o) r flight flight;
+      flight = by_noting (λ x. OfInFlight x.state.in_flight Agrees) m.call.line c (takes_flight o) r flight flight;
     }
 
 reached_after : (s : State) (ms : List Made) → AnswersFrom s ms → IsReached s → IsReached (state_after s ms)
@@ -258,7 +259,7 @@ reached limit mark_limit intervals told linked ledger made fits limited agree fi
         };
         sound = first_sound limit mark_limit intervals told linked ledger fits first;
         open_units = first_open limit mark_limit intervals told linked ledger fits first;
-        landing = tt;
+        state_in_flight = tt;
       };
       agreed = first_agrees ledger first;
       flight = tt;

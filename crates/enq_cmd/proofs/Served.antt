@@ -41,31 +41,31 @@ module _ {K D L : Type 0} (held : K → Option Rows) (may_leave : K → Rows →
   site = found_in held may_leave tells reads images applied keeper disk link
 
   abbrev left_with : K → D → Option (List Entry) → SiteLeft
-  left_with keeper_now disk_now copy = record { rows = may_leave keeper_now; images = images disk_now; list = copy }
+  left_with keeper_now disk_now replica = record { rows = may_leave keeper_now; images = images disk_now; list = replica }
 
   -- an open server, whose calls led to another state, and its devices then
   pub promises_by : (after : View K D L) (keeper_now : K) (disk_now : D) → keeper_now ≡ after.keeper → disk_now ≡ after.file.disk
       → is_some (held after.keeper) ≡ is_some (held hall.keeper)
       → LeavesState held may_leave after → LeavesLists tells images after → HasOpenUnits after.state
-      → (copy : Option (List Entry)) → (after.state.attached ≡ true → IfSome copy (λ list. list ≡ after.state.locks))
-      → (is_some (applied hall.follower.link) ≡ true → IsTrue tells → NoneUnsound after.state.past)
+      → (replica : Option (List Entry)) → (after.state.attached ≡ true → IfSome replica (λ list. list ≡ after.state.locks))
+      → (is_some (applied hall.replica.link) ≡ true → IsTrue tells → NoneUnsound after.state.past)
       → (is_some (held hall.keeper) ≡ true → NoneUnsoundStore after.state.past)
-      → (is_some (applied hall.follower.link) ≡ true → NoneUnsoundReplica after.state.past)
+      → (is_some (applied hall.replica.link) ≡ true → NoneUnsoundReplica after.state.past)
       → (old new : Seen) (past : List PastEntry) → past ≡ after.state.past → (made : List Made) → past ≡ calls_of made
       → AreModelAnswers (first_state o.land (is_some (held keeper)) (is_some (applied link)) hall.state.stored) made
       → after.state ≡ state_after (first_state o.land (is_some (held keeper)) (is_some (applied link)) hall.state.stored) made
       → CountsCalls store_fails_in_call made old.store_faults new.store_faults → CountsCalls file_fails_in_call made old.file_faults new.file_faults
-      → AreServed o.land site (left_with keeper_now disk_now copy) old new hall.state.stored made past
-  promises_by after keeper_now disk_now kept kept_disk told leaves lists units copy follows files stores replicas old new past history made calls answers leads
-      counted filed =
-      promises_with o.land site (left_with keeper_now disk_now copy) old new hall.state.stored after.state past made
+      → AreServed o.land site (left_with keeper_now disk_now replica) old new hall.state.stored made past
+  promises_by after keeper_now disk_now kept kept_disk told leaves lists units replica follows files stores replicas old new past history made calls answers
+      leads counted filed =
+      promises_with o.land site (left_with keeper_now disk_now replica) old new hall.state.stored after.state past made
       (read_limits o.read.bytes o.land o.read.gives)
       o.sound
       (λ yes. where_told _ (held hall.keeper) (subst IsTrue (sym o.told) yes) o.stored)
       o.fits o.table o.filed calls answers leads counted filed
       (λ yes. subst (λ k. (rows : Rows) → may_leave k rows → StandForState rows after.state) (sym kept)
       (where_told _ (held after.keeper) (subst IsTrue (sym (told ∙ o.told)) yes) leaves))
-      (subst (λ d. AllRecover tells images after.state.condition after.state.stored after.state.pending after.state.found (record after.file { disk = d }))
+      (subst (λ d. AllRecover tells images after.state.condition after.state.stored after.state.in_flight after.state.found (record after.file { disk = d }))
       (sym kept_disk) lists)
       units follows
       (λ on yes. subst NoneUnsound (sym history) (files (ap (λ l. is_some (applied l)) o.linked ∙ on) yes))
@@ -76,18 +76,18 @@ module _ {K D L : Type 0} (held : K → Option Rows) (may_leave : K → Rows →
   pub served_by : (after : View K D L) (keeper_now : K) (disk_now : D) → keeper_now ≡ after.keeper → disk_now ≡ after.file.disk
       → is_some (held after.keeper) ≡ is_some (held hall.keeper)
       → LeavesState held may_leave after → LeavesLists tells images after → HasOpenUnits after.state
-      → (copy : Option (List Entry)) → (after.state.attached ≡ true → IfSome copy (λ list. list ≡ after.state.locks))
-      → (is_some (applied hall.follower.link) ≡ true → IsTrue tells → NoneUnsound hall.state.past → NoneUnsound after.state.past)
+      → (replica : Option (List Entry)) → (after.state.attached ≡ true → IfSome replica (λ list. list ≡ after.state.locks))
+      → (is_some (applied hall.replica.link) ≡ true → IsTrue tells → NoneUnsound hall.state.past → NoneUnsound after.state.past)
       → (is_some (held hall.keeper) ≡ true → NoneUnsoundStore hall.state.past → NoneUnsoundStore after.state.past)
-      → (is_some (applied hall.follower.link) ≡ true → NoneUnsoundReplica hall.state.past → NoneUnsoundReplica after.state.past)
+      → (is_some (applied hall.replica.link) ≡ true → NoneUnsoundReplica hall.state.past → NoneUnsoundReplica after.state.past)
       → (known : List Object) (old new : Seen) (past : List PastEntry) (why : Why)
       → HasRun o.land (is_some (held keeper)) (is_some (applied link)) hall.state.stored hall.state after.state known old new past why
-      → (s : IsServed o.land site (left_with keeper_now disk_now copy) old new past why)
+      → (s : IsServed o.land site (left_with keeper_now disk_now replica) old new past why)
       × (after.state ≡ state_after (first_state o.land (is_some (held keeper)) (is_some (applied link)) s.stored)
       (made_from o.land (is_some (held keeper)) (is_some (applied link)) s.stored s.turns))
-  served_by after keeper_now disk_now kept kept_disk told leaves lists units copy follows files stores replicas known old new past why run =
-      served_with o.land site (left_with keeper_now disk_now copy) hall.state.stored hall.state after.state known old new past why
-      (promises_by after keeper_now disk_now kept kept_disk told leaves lists units copy follows
+  served_by after keeper_now disk_now kept kept_disk told leaves lists units replica follows files stores replicas known old new past why run =
+      served_with o.land site (left_with keeper_now disk_now replica) hall.state.stored hall.state after.state known old new past why
+      (promises_by after keeper_now disk_now kept kept_disk told leaves lists units replica follows
       (λ on yes. files on yes (first_sound is_unsound_file o.land (is_some (held keeper)) (is_some (applied link)) hall.state.stored hall.state o.first))
       (λ yes. stores yes (first_sound is_unsound_store o.land (is_some (held keeper)) (is_some (applied link)) hall.state.stored hall.state o.first))
       (λ yes. replicas yes (first_sound is_unsound_replica o.land (is_some (held keeper)) (is_some (applied link)) hall.state.stored hall.state o.first))

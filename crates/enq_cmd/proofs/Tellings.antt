@@ -49,9 +49,9 @@ use Rattle.store_reading.specs.Good.{IsSound}
 use Rattle.update_records.specs.Ledger.{Ledger, StandFor}
 use Rattle.hall_calls.specs.Filing.{RecoversFrom, UnlessTaken, UnlessUntaken}
 use Rattle.hall_model.specs.Kept.{HasOpenUnits}
-use Rattle.hall_calls.specs.Leaving.{StandForKnown, StandForPending, StandForState}
+use Rattle.hall_calls.specs.Leaving.{StandForInFlight, StandForKnown, StandForState}
 use Rattle.hall_calls.specs.OpenLists.{AgreeAll}
-use Rattle.hall_model.specs.OpenUnits.{OfPending, open_entries}
+use Rattle.hall_model.specs.OpenUnits.{OfInFlight, open_entries}
 use Rattle.backup_file.specs.declared.handed.Handed.{Handed}
 use Rattle.lock_entry.specs.Sound.{IsSound as IsSoundTable}
 
@@ -166,51 +166,51 @@ survives_with : (rows : Rows) (s : State) (ledger : Ledger) → IsLedgerOf s led
 survives_with rows s ledger known stand =
     record { ledger = ledger; known = known; stand = stand; right = books_right rows ledger stand; business = holds_books rows ledger stand }
 
-survives_pending : (rows : Rows) (s : State) (pending : Option Ledger) → s.pending ≡ pending
-    → ((ledger : Ledger) → s.pending ≡ Some ledger → IsLedgerOf s ledger) → StandForPending rows pending → SurvivesStop rows s
-survives_pending rows s None is known stand = absurd stand
-survives_pending rows s (Some ledger) is known stand = survives_with rows s ledger (known ledger is) stand
+survives_in_flight : (rows : Rows) (s : State) (in_flight : Option Ledger) → s.in_flight ≡ in_flight
+    → ((ledger : Ledger) → s.in_flight ≡ Some ledger → IsLedgerOf s ledger) → StandForInFlight rows in_flight → SurvivesStop rows s
+survives_in_flight rows s None is known stand = absurd stand
+survives_in_flight rows s (Some ledger) is known stand = survives_with rows s ledger (known ledger is) stand
 
 -- by what is known of the change in flight
-survives_by : (rows : Rows) (s : State) (found : Option Bool) → s.found ≡ found → StandForKnown found rows s.stored s.pending → SurvivesStop rows s
+survives_by : (rows : Rows) (s : State) (found : Option Bool) → s.found ≡ found → StandForKnown found rows s.stored s.in_flight → SurvivesStop rows s
 survives_by rows s None is (inl stand) = survives_with rows s s.stored (subst (λ o. IsLedgerBy o s s.stored) (sym is) (inl refl)) stand
-survives_by rows s None is (inr stand) = survives_pending rows s s.pending refl (λ ledger e. subst (λ o. IsLedgerBy o s ledger) (sym is) (inr e)) stand
+survives_by rows s None is (inr stand) = survives_in_flight rows s s.in_flight refl (λ ledger e. subst (λ o. IsLedgerBy o s ledger) (sym is) (inr e)) stand
 survives_by rows s (Some false) is stand = survives_with rows s s.stored (subst (λ o. IsLedgerBy o s s.stored) (sym is) refl) stand
-survives_by rows s (Some true) is stand = survives_pending rows s s.pending refl (λ ledger e. subst (λ o. IsLedgerBy o s ledger) (sym is) e) stand
+survives_by rows s (Some true) is stand = survives_in_flight rows s s.in_flight refl (λ ledger e. subst (λ o. IsLedgerBy o s ledger) (sym is) e) stand
 
 -- rows that stand for a state are what a stop may leave of it
 survives : (rows : Rows) (s : State) → StandForState rows s → SurvivesStop rows s
 survives rows s h = survives_by rows s s.found refl h
 
-agree_pending : (s : State) (lists : List Handed) (ledger : Ledger) → s.pending ≡ Some ledger → OfPending s.pending (λ l. AgreeAll l lists)
+agree_in_flight : (s : State) (lists : List Handed) (ledger : Ledger) → s.in_flight ≡ Some ledger → OfInFlight s.in_flight (λ l. AgreeAll l lists)
     → AgreeAll ledger lists
-agree_pending s lists ledger is h = subst (λ p. OfPending p (λ l. AgreeAll l lists)) is h
+agree_in_flight s lists ledger is h = subst (λ p. OfInFlight p (λ l. AgreeAll l lists)) is h
 
-together_pending : (s : State) (ledger : Ledger) → s.pending ≡ Some ledger
-    → OfPending s.pending (λ l. IsTrue (is_honest s) → IsSoundTable (open_entries l)) → IsTrue (is_honest s) → IsSoundTable (open_entries ledger)
-together_pending s ledger is h = subst (λ p. OfPending p (λ l. IsTrue (is_honest s) → IsSoundTable (open_entries l))) is h
+together_in_flight : (s : State) (ledger : Ledger) → s.in_flight ≡ Some ledger
+    → OfInFlight s.in_flight (λ l. IsTrue (is_honest s) → IsSoundTable (open_entries l)) → IsTrue (is_honest s) → IsSoundTable (open_entries ledger)
+together_in_flight s ledger is h = subst (λ p. OfInFlight p (λ l. IsTrue (is_honest s) → IsSoundTable (open_entries l))) is h
 
 -- by what is known of the change in flight
 agree_by : (s : State) (lists : List Handed) (ledger : Ledger) (found : Option Bool) → UnlessTaken found (AgreeAll s.stored lists)
-    → UnlessUntaken found (OfPending s.pending (λ l. AgreeAll l lists)) → IsLedgerBy found s ledger → AgreeAll ledger lists
-agree_by s lists ledger None agree landed (inl is) = subst (λ l. AgreeAll l lists) (sym is) agree
-agree_by s lists ledger None agree landed (inr is) = agree_pending s lists ledger is landed
-agree_by s lists ledger (Some false) agree landed is = subst (λ l. AgreeAll l lists) (sym is) agree
-agree_by s lists ledger (Some true) agree landed is = agree_pending s lists ledger is landed
+    → UnlessUntaken found (OfInFlight s.in_flight (λ l. AgreeAll l lists)) → IsLedgerBy found s ledger → AgreeAll ledger lists
+agree_by s lists ledger None agree flight_agrees (inl is) = subst (λ l. AgreeAll l lists) (sym is) agree
+agree_by s lists ledger None agree flight_agrees (inr is) = agree_in_flight s lists ledger is flight_agrees
+agree_by s lists ledger (Some false) agree flight_agrees is = subst (λ l. AgreeAll l lists) (sym is) agree
+agree_by s lists ledger (Some true) agree flight_agrees is = agree_in_flight s lists ledger is flight_agrees
 
 together_by : (s : State) (ledger : Ledger) (found : Option Bool) → IsTrue (is_honest s) → HasOpenUnits s → IsLedgerBy found s ledger
     → IsSoundTable (open_entries ledger)
 together_by s ledger None honest units (inl is) = subst (λ l. IsSoundTable (open_entries l)) (sym is) (units.stored honest).together
-together_by s ledger None honest units (inr is) = together_pending s ledger is units.pending honest
+together_by s ledger None honest units (inr is) = together_in_flight s ledger is units.in_flight honest
 together_by s ledger (Some false) honest units is = subst (λ l. IsSoundTable (open_entries l)) (sym is) (units.stored honest).together
-together_by s ledger (Some true) honest units is = together_pending s ledger is units.pending honest
+together_by s ledger (Some true) honest units is = together_in_flight s ledger is units.in_flight honest
 
 -- an image of the file from which a state is recovered is what a stop may leave of it
-handed_in : (image : List ℕ) (s : State) → HasOpenUnits s → RecoversFrom s.condition s.stored s.pending s.found image → HasHanded image s
+handed_in : (image : List ℕ) (s : State) → HasOpenUnits s → RecoversFrom s.condition s.stored s.in_flight s.found image → HasHanded image s
 handed_in image s units h = record {
   lists = h.lists;
   stands = h.stands;
-  agree = λ ledger known. agree_by s h.lists ledger s.found h.agree h.landed known;
+  agree = λ ledger known. agree_by s h.lists ledger s.found h.agree h.flight_agrees known;
   only = h.only;
   together = λ honest ledger known. together_by s ledger s.found honest units known;
 }
@@ -248,7 +248,7 @@ pub promises_with : (land : Landscape) (site : SiteFound) (site_now : SiteLeft) 
     → after ≡ state_after (first_state land site.told site.linked l) made
     → CountsCalls store_fails_in_call made old.store_faults new.store_faults → CountsCalls file_fails_in_call made old.file_faults new.file_faults
     → (IsTrue site.told → (rows : Rows) → site_now.rows rows → StandForState rows after)
-    → (IsTrue site.tells → (image : List ℕ) → site_now.images image → RecoversFrom after.condition after.stored after.pending after.found image)
+    → (IsTrue site.tells → (image : List ℕ) → site_now.images image → RecoversFrom after.condition after.stored after.in_flight after.found image)
     → HasOpenUnits after → (after.attached ≡ true → IfSome site_now.list (λ list. list ≡ after.locks))
     → (IsTrue site.linked → IsTrue site.tells → NoneUnsound past) → (IsTrue site.told → NoneUnsoundStore past)
     → (IsTrue site.linked → NoneUnsoundReplica past)

@@ -45,26 +45,26 @@ module _ {K D L : Type 0} (held : K → Option Rows) (may_leave : K → Rows →
   counted k d l = counts_of faults file_faults link_faults refusals k d l
 
   -- the counts of the site are those of the server that was opened over it
-  counts_from : counted hall.keeper hall.file.disk hall.follower.link ≡ counted keeper disk link
+  counts_from : counted hall.keeper hall.file.disk hall.replica.link ≡ counted keeper disk link
   counts_from =
       λ i. record { store = o.counts i; file = o.file_counts i; link = record { faults = link_faults (o.linked i); refusals = refusals (o.linked i) } }
 
   -- what the server that was opened was led to, said of its first state
   abbrev Leads : State → Counts → Counts → Type 0
-  Leads s before now = IsLed (is_some (held hall.keeper)) tells (is_some (applied hall.follower.link)) first before s now
+  Leads s before now = IsLed (is_some (held hall.keeper)) tells (is_some (applied hall.replica.link)) first before s now
 
-  pub leads_from : (s : State) (now : Counts) → IsLed (is_some (held hall.keeper)) tells (is_some (applied hall.follower.link)) hall.state
-      (counted hall.keeper hall.file.disk hall.follower.link) s now → Leads s (counted keeper disk link) now
+  pub leads_from : (s : State) (now : Counts) → IsLed (is_some (held hall.keeper)) tells (is_some (applied hall.replica.link)) hall.state
+      (counted hall.keeper hall.file.disk hall.replica.link) s now → Leads s (counted keeper disk link) now
   leads_from s now h =
-      subst (λ x. IsLed (is_some (held hall.keeper)) tells (is_some (applied hall.follower.link)) x (counted keeper disk link) s now) o.first
-      (subst (λ b. IsLed (is_some (held hall.keeper)) tells (is_some (applied hall.follower.link)) hall.state b s now) counts_from h)
+      subst (λ x. IsLed (is_some (held hall.keeper)) tells (is_some (applied hall.replica.link)) x (counted keeper disk link) s now) o.first
+      (subst (λ b. IsLed (is_some (held hall.keeper)) tells (is_some (applied hall.replica.link)) hall.state b s now) counts_from h)
 
   module _ (after : View K D L) (keeper_now : K) (disk_now : D) (link_now : L) (kept : keeper_now ≡ after.keeper) (kept_disk : disk_now ≡ after.file.disk)
-      (kept_link : link_now ≡ after.follower.link) (past : List PastEntry) (history : past ≡ after.state.past)
-      (led : ∥ IsLed (is_some (held hall.keeper)) tells (is_some (applied hall.follower.link)) hall.state
-      (counted hall.keeper hall.file.disk hall.follower.link)
-      after.state (counted after.keeper after.file.disk after.follower.link) ∥₁) where
-    counts_to : counted after.keeper after.file.disk after.follower.link ≡ counted keeper_now disk_now link_now
+      (kept_link : link_now ≡ after.replica.link) (past : List PastEntry) (history : past ≡ after.state.past)
+      (led : ∥ IsLed (is_some (held hall.keeper)) tells (is_some (applied hall.replica.link)) hall.state
+      (counted hall.keeper hall.file.disk hall.replica.link)
+      after.state (counted after.keeper after.file.disk after.replica.link) ∥₁) where
+    counts_to : counted after.keeper after.file.disk after.replica.link ≡ counted keeper_now disk_now link_now
     counts_to = λ i. record {
       store = faults (sym kept i);
       file = file_faults (sym kept_disk i);
@@ -75,7 +75,7 @@ module _ {K D L : Type 0} (held : K → Option Rows) (may_leave : K → Rows →
     leads : ∥ Leads after.state (counted keeper disk link) (counted keeper_now disk_now link_now) ∥₁
     leads = ∥∥₁_map led
         (λ h. subst (Leads after.state (counted keeper disk link)) counts_to
-        (leads_from after.state (counted after.keeper after.file.disk after.follower.link) h))
+        (leads_from after.state (counted after.keeper after.file.disk after.replica.link) h))
 
     -- the link's counts, call by call
     linked_past : (counts counts_now : Counts) → Leads after.state counts counts_now → CountsLinkEach false past counts.link counts_now.link
@@ -87,7 +87,7 @@ module _ {K D L : Type 0} (held : K → Option Rows) (may_leave : K → Rows →
         (∥∥₁_map leads (linked_past (counted keeper disk link) (counted keeper_now disk_now link_now)))
 
     -- what the calls found of devices that tell what they hold
-    pub threads_good : is_some (applied hall.follower.link) ≡ true → IsTrue tells → ∥ NoneUnsound after.state.past ∥₁
+    pub threads_good : is_some (applied hall.replica.link) ≡ true → IsTrue tells → ∥ NoneUnsound after.state.past ∥₁
     threads_good on is_told = ∥∥₁_map led (λ h. h.good_file on is_told)
 
     pub threads_sound : is_some (held hall.keeper) ≡ true → ∥ NoneUnsoundStore after.state.past ∥₁
@@ -95,7 +95,8 @@ module _ {K D L : Type 0} (held : K → Option Rows) (may_leave : K → Rows →
 
     module _ (told : is_some (held after.keeper) ≡ is_some (held hall.keeper)) (leaves : LeavesState held may_leave after)
         (lists : LeavesLists tells images after)
-        (units : HasOpenUnits after.state) (copy : Option (List Entry)) (follows : after.state.attached ≡ true → IfSome copy (λ list. list ≡ after.state.locks))
+        (units : HasOpenUnits after.state) (replica : Option (List Entry))
+        (follows : after.state.attached ≡ true → IfSome replica (λ list. list ≡ after.state.locks))
         (known : List Object) (same : known ≡ objects) (workers : ℕ) (rest rest_now written written_now : Option (List ℕ)) (source source_now sink sink_now : ℕ)
         (why end : Why) (ends : end ≡ why) where
       abbrev seen_old : K → D → Seen
@@ -127,13 +128,13 @@ module _ {K D L : Type 0} (held : K → Option Rows) (may_leave : K → Rows →
       served_so : Leads after.state (counted keeper disk link) (counted keeper_now disk_now link_now)
           → RunsThreads known workers hall.state after.state (seen_old hall.keeper hall.file.disk) (seen_new after.keeper after.file.disk) why
           → IsServedByThreads o.land workers (found_in held may_leave tells reads images applied keeper disk link)
-          (record { rows = may_leave keeper_now; images = images disk_now; list = copy })
+          (record { rows = may_leave keeper_now; images = images disk_now; list = replica })
           (seen_old keeper disk) (seen_new keeper_now disk_now) (link_counts link_faults refusals link) (link_counts link_faults refusals link_now) past end
       served_so h run = record {
         stored = hall.state.stored;
         made = h.made;
         promises = promises_by held may_leave faults tells reads images file_faults applied left keeper disk link hall objects o
-            after keeper_now disk_now kept kept_disk told leaves lists units copy follows h.good_file h.good_store h.good_replica
+            after keeper_now disk_now kept kept_disk told leaves lists units replica follows h.good_file h.good_store h.good_replica
             (seen_old keeper disk) (seen_new keeper_now disk_now) past history h.made (history ∙ h.calls) h.answers h.state h.store h.file;
         history = ap (λ (s : State). s.past) (sym h.state) ∙ sym history;
         runs = runs_from (state_after first h.made) h.state run;
@@ -142,7 +143,7 @@ module _ {K D L : Type 0} (held : K → Option Rows) (may_leave : K → Rows →
 
       pub threads_by : ∥ RunsThreads known workers hall.state after.state (seen_old hall.keeper hall.file.disk) (seen_new after.keeper after.file.disk) why ∥₁
           → ∥ HasThreads workers left (found_in held may_leave tells reads images applied keeper disk link)
-          (record { rows = may_leave keeper_now; images = images disk_now; list = copy }) disk disk_now link link_now
+          (record { rows = may_leave keeper_now; images = images disk_now; list = replica }) disk disk_now link link_now
           (seen_old keeper disk) (seen_new keeper_now disk_now) (link_counts link_faults refusals link) (link_counts link_faults refusals link_now) past end ∥₁
       threads_by runs =
           ∥∥₁_elim leads ∥∥₁_prop (λ h. ∥∥₁_map runs (λ run. record {

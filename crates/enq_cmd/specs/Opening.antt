@@ -33,7 +33,7 @@ pub record IsOpened {K D L : Type 0} (held : K → Option Rows) (may_leave : K �
   pub told : is_some (held hall.keeper) ≡ is_some (held keeper)
   pub counts : faults hall.keeper ≡ faults keeper
   pub file_counts : file_faults hall.file.disk ≡ file_faults disk
-  pub linked : hall.follower.link ≡ link
+  pub linked : hall.replica.link ≡ link
 
 -- a landscape that wasn't read: the site is as it was
 pub record IsUnlanded {K D : Type 0} (before now : ℕ) (keeper keeper_now : K) (disk disk_now : D)

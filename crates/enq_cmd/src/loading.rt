@@ -4,7 +4,7 @@ ghost use Rattle.enq_base.specs.declared.condition.Bad.TheVariants as bad;
 ghost use Rattle.enq_base.specs.declared.condition.BackupBad.{BackupBad};
 ghost use Rattle.enq_cmd.specs.Loading.{HasLoaded, IsRunEnd, RunsLoad, end_of};
 ghost use Rattle.enq_cmd.specs.Main.{EndsComplete, FitAll, HasNoStart, IsBadDocument, IsBadStore, IsFirstBroken, IsGoodFile, IsLandEnd, IsUnfitEnd, TellsBadFile, found_in, left_in, status_of};
-ghost use Rattle.enq_server.specs.Following.{IsLater};
+ghost use Rattle.enq_server.specs.Replica.{IsLater};
 ghost use Rattle.keeper_api.specs.Rows.{Rows};
 ghost use Rattle.landscape.specs.Landscape.{landscape_of};
 ghost use Rattle.landscape.specs.declared.landscape.Landscape.{Landscape};
@@ -135,19 +135,19 @@ fn load<T: Sink, K: Keeper, D: Disk, L: Link>(
         → HasBadCause hall.old.state hall.new.state (bad.Store table row) }
     ensures bad_backup { (place : BackupBad) → result ≡ Why.BadBackup place
         → HasBadCause hall.old.state hall.new.state (bad.Backup place) }
-    ensures good_file { is_some (L.applied hall.old.follower.link) ≡ true → IsTrue D.tells
+    ensures good_file { is_some (L.applied hall.old.replica.link) ≡ true → IsTrue D.tells
         → NoneUnsound hall.old.state.past → NoneUnsound hall.new.state.past }
     ensures good_store { is_some (K.held hall.old.keeper) ≡ true → NoneUnsoundStore hall.old.state.past
         → NoneUnsoundStore hall.new.state.past }
-    ensures good_replica { is_some (L.applied hall.old.follower.link) ≡ true → NoneUnsoundReplica hall.old.state.past
+    ensures good_replica { is_some (L.applied hall.old.replica.link) ≡ true → NoneUnsoundReplica hall.old.state.past
         → NoneUnsoundReplica hall.new.state.past }
     ensures told { is_some (K.held hall.new.keeper) ≡ is_some (K.held hall.old.keeper) }
-    ensures link { IsLater L.applied L.faults L.refusals hall.old.follower hall.new.follower }
-    ensures link_fault { TellsNoFault (L.faults hall.old.follower.link) (L.faults hall.new.follower.link)
+    ensures link { IsLater L.applied L.faults L.refusals hall.old.replica hall.new.replica }
+    ensures link_fault { TellsNoFault (L.faults hall.old.replica.link) (L.faults hall.new.replica.link)
         hall.old.state.past hall.new.state.past }
     ensures link_counts { GoesOnLinked hall.old.state hall.new.state
-        (link_counts L.faults L.refusals hall.old.follower.link)
-        (link_counts L.faults L.refusals hall.new.follower.link) }
+        (link_counts L.faults L.refusals hall.old.replica.link)
+        (link_counts L.faults L.refusals hall.new.replica.link) }
 {
     match replay(alloc, source, &mut BlindSink, hall, objects) {
         Why::Done => end_of(write_audit(alloc, 0, hall, sink)),

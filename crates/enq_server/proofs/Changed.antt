@@ -31,12 +31,12 @@ use Rattle.lock_entry.specs.declared.fault.AskFault.{AskFault}
 use Rattle.lock_entry.specs.declared.fault.AskFault.TheVariants as ask
 use Rattle.lock_entry.proofs.lemmas.Lists.{count_by-any, length-filter_le, list_any-filter, list_any-weaken}
 use Rattle.lock_entry.proofs.lemmas.Naming.{same_name-refl, same_name-same}
-use Rattle.replica_link.specs.Operations.{replica}
+use Rattle.replica_link.specs.Operations.{after_ops}
 use Rattle.replica_link.specs.Shipping.{drop_of, freed_ops, granted_ops, lowered_op, owner_ops, put_ops, turn_ops}
 use Rattle.replica_link.specs.declared.operation.TableOp.{TableOp}
 use Rattle.replica_link.specs.declared.operation.TableOp.TheVariants.{Put}
 use Rattle.enq_server.specs.Server.{put_back}
-use Rattle.enq_server.proofs.Copies.{converted_is, granted_is, readmitted_at, readmitted_is}
+use Rattle.enq_server.proofs.Shipped.{converted_is, granted_is, readmitted_at, readmitted_is}
 
 tails : {X : Type 0} (x y : X) (xs ys : List X) → x ∷ xs ≡ y ∷ ys → xs ≡ ys
 tails x y xs ys same = cc
@@ -232,7 +232,7 @@ back_last es given owner same =
 -- what is sent where they are granted, unless they stay as they are
 pub readmits_at : (t : Table) (asker : Asker) (own given es : List Entry) (stays : Bool) → IsTable t → ReadmitsOnly asker given
     → own ≡ filter (is_of asker.update) t.entries → (IsTrue stays → put_back t.entries asker.update given ≡ t.entries)
-    → readmitted t asker given ≡ Ok es → (if stays then t.entries else replica (replica t.entries (map drop_of own)) (map Put given)) ≡ es
+    → readmitted t asker given ≡ Ok es → (if stays then t.entries else after_ops (after_ops t.entries (map drop_of own)) (map Put given)) ≡ es
 readmits_at t asker own given es true good only is same h = sym (same refl) ∙ sym (readmitted_is t asker given es h)
 readmits_at t asker own given es false good only is same h = readmitted_at t asker own given es good only is h
 

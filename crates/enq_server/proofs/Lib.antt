@@ -2,7 +2,7 @@ pub mod Others
 pub mod Differences
 pub mod Images
 pub mod Lasting
-pub mod Copies
+pub mod Shipped
 pub mod Stores
 pub mod Changed
 pub mod Readmitted

@@ -6,10 +6,10 @@ use Rattle.lock_entry.specs.Table.{Table}
 use Rattle.lock_entry.specs.declared.entry.Entry.{Entry}
 use Rattle.lock_entry.specs.declared.fault.AskFault.{AskFault}
 use Rattle.enq_server.specs.Faults.{HasCallCause, IsReadmission, IsRefusal}
-use Rattle.enq_server.specs.Following.{Following, IsLostWith, KeepsOn}
+use Rattle.enq_server.specs.Replica.{IsLostWith, KeepsOn, ReplicaView}
 use Rattle.enq_server.specs.declared.fault.ServerFault.{ServerFault}
 use Rattle.enq_server.specs.declared.fault.ServerFault.TheVariants as server
-use Rattle.enq_server.proofs.lemmas.Following.{keeps_none}
+use Rattle.enq_server.proofs.lemmas.Replicas.{keeps_none}
 
 -- ---- a refusal
 
@@ -41,19 +41,19 @@ failed_cause before middle now same later rose = (omega (arith, same, later), su
 
 -- ---- the replica
 
-pub keeps_over : {L : Type 0} (applied : L → Option (List Entry)) (faults refusals : L → ℕ) (first old new last : Following L) → old ≡ first → last ≡ new
+pub keeps_over : {L : Type 0} (applied : L → Option (List Entry)) (faults refusals : L → ℕ) (first old new last : ReplicaView L) → old ≡ first → last ≡ new
     → KeepsOn applied faults refusals old new → KeepsOn applied faults refusals first last
 keeps_over applied faults refusals first old new last before after keeps =
     subst (λ f. KeepsOn applied faults refusals f last) before (subst (KeepsOn applied faults refusals old) (sym after) keeps)
 
-pub keeps_same : {L : Type 0} (applied : L → Option (List Entry)) (faults refusals : L → ℕ) (old new : Following L) → new ≡ old
+pub keeps_same : {L : Type 0} (applied : L → Option (List Entry)) (faults refusals : L → ℕ) (old new : ReplicaView L) → new ≡ old
     → KeepsOn applied faults refusals old new
 keeps_same applied faults refusals old new same = subst (KeepsOn applied faults refusals old) (sym same) (keeps_none applied faults refusals old)
 
-pub lost_over : {L : Type 0} (first old new last : Following L) (before early late now : Table) → old ≡ first → last ≡ new → early ≡ before → now ≡ late
+pub lost_over : {L : Type 0} (first old new last : ReplicaView L) (before early late now : Table) → old ≡ first → last ≡ new → early ≡ before → now ≡ late
     → IsLostWith old new early late → IsLostWith first last before now
 lost_over first old new last before early late now f l b n lost on off same =
     lost (ap (λ g. g.attached) f ∙ on) (ap (λ g. g.attached) (sym l) ∙ off) (sym n ∙ same ∙ sym b)
 
-pub lost_same : {L : Type 0} (old new : Following L) (before now : Table) → new ≡ old → IsLostWith old new before now
+pub lost_same : {L : Type 0} (old new : ReplicaView L) (before now : Table) → new ≡ old → IsLostWith old new before now
 lost_same old new before now same on off = let odd : true ≡ false = sym on ∙ sym (ap (λ g. g.attached) same) ∙ off in absurd cc

@@ -1,4 +1,4 @@
-pub mod Following
+pub mod Replicas
 pub mod Held
 pub mod Known
 pub mod Listed

@@ -1,5 +1,5 @@
 pub mod Recovery
 pub mod Faults
-pub mod Following
+pub mod Replica
 pub mod Held
 pub mod Server

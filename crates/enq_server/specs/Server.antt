@@ -22,7 +22,7 @@ use Rattle.backup_file.specs.Handing.{handed_of}
 use Rattle.backup_file.specs.Lists.{after}
 use Rattle.backup_file.specs.declared.handed.Handed.{Handed}
 use Rattle.backup_file.specs.declared.handed.Record.TheVariants.{Hand}
-use Rattle.enq_server.specs.Following.{Following}
+use Rattle.enq_server.specs.Replica.{ReplicaView}
 use Rattle.enq_server.specs.Recovery.{Agrees, joined, lists_among}
 
 -- `table` is `no_table` where none stands
@@ -30,12 +30,12 @@ pub record Server (D L : Type 0) : Type 0 where
   pub stands : Bool
   pub table : Table
   pub file : BackupView D
-  pub copy : Following L
+  pub replica : ReplicaView L
 
 -- what a lock server has beside its table
 pub record Remains (D L : Type 0) : Type 0 where
   pub file : BackupView D
-  pub copy : Following L
+  pub replica : ReplicaView L
 
 abbrev pub no_table : Table
 no_table = record { entries = []; limit = 0 }

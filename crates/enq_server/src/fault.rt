@@ -2,7 +2,7 @@ ghost use Rattle.std.specs.Prelude.{◌≡◌};
 ghost use Rattle.enq_server.specs.declared.fault.OpenFault.TheVariants as opening;
 ghost use Rattle.enq_server.specs.declared.fault.ServerFault.TheVariants as server;
 ghost use Rattle.enq_server.specs.Faults.{opening_fault, refusal};
-ghost use Rattle.enq_server.specs.Following.{over_fault};
+ghost use Rattle.enq_server.specs.Replica.{over_fault};
 
 use backup_file::BackFault;
 use enq_base::{BackupBad, Failed, NoMemory};

@@ -2,10 +2,10 @@
 #![tactic(auto)]
 
 mod fault;
-mod follower;
 mod laws;
 mod places;
 mod recovery;
+mod replica;
 mod server;
 mod shipping;
 mod wreck;

@@ -9,7 +9,7 @@ ghost use Rattle.lock_entry.specs.Converting.{converted};
 ghost use Rattle.lock_entry.specs.Freeing.{freed, freed_owner, handed_over, has_unhanded};
 ghost use Rattle.lock_entry.specs.Granting as granting;
 ghost use Rattle.lock_entry.specs.Names.{is_of, named};
-ghost use Rattle.enq_server.specs.Following.{IsLater, IsLostWith, IsOverFault, KeepsOn, told_list};
+ghost use Rattle.enq_server.specs.Replica.{IsLater, IsLostWith, IsOverFault, KeepsOn, told_list};
 ghost use Rattle.lock_entry.specs.Pairs.{IsPair};
 ghost use Rattle.lock_entry.specs.Sound.{IsSound, ReadmitsOnly};
 ghost use Rattle.lock_entry.specs.Table.{IsTable, entry_at, with_entries};
@@ -27,8 +27,8 @@ ghost use Rattle.enq_base.specs.declared.owner.UnitKey.{UnitKey};
 ghost use Rattle.lock_entry.specs.declared.entry.Entry.{Entry};
 
 use crate::fault::{OpenFault, OverFault, ServerFault};
-use crate::follower::Follower;
 use crate::recovery::{ends_with, read_anew};
+use crate::replica::Replica;
 use crate::shipping::{
     hand, ship_drops, ship_freed, ship_granted, ship_owner, ship_readmitted, ship_turns,
 };
@@ -58,13 +58,13 @@ impl<T: LockStore, D: Disk, L: Link> Model for EnqServer<T, D, L> {
     ghost Value = { Server D L };
 
     ghost view = { λ s. record
-        { stands = is_some s.table; table = table_of T.table s.table; file = s.rest.file; copy = s.rest.copy } };
+        { stands = is_some s.table; table = table_of T.table s.table; file = s.rest.file; replica = s.rest.replica } };
 
     ghost use Rattle.lock_entry.specs.Table.{IsTable};
-    ghost use Rattle.enq_server.specs.Following.{IsAt};
+    ghost use Rattle.enq_server.specs.Replica.{IsAt};
 
     ghost invariant = { λ s. IsTable (table_of T.table s.table)
-        × (is_some s.table ≡ true → IsAt L.applied s.rest.copy (table_of T.table s.table).entries) };
+        × (is_some s.table ≡ true → IsAt L.applied s.rest.replica (table_of T.table s.table).entries) };
 }
 
 impl<T: LockStore, D: Disk, L: Link> EnqServer<T, D, L> {
@@ -94,8 +94,8 @@ impl<T: LockStore, D: Disk, L: Link> EnqServer<T, D, L> {
         ensures images { IsTrue D.tells → MatchResult result
             (λ s. Follows (FreesOthers units.now) (D.may_leave disk) (D.may_leave s.file.disk))
             (λ e. Follows (Leaves units.now e.0) (D.may_leave disk) (D.may_leave e.1)) }
-        ensures detached { IfOk result (λ s. s.copy.attached ≡ false) }
-        ensures link { MatchResult result (λ s. s.copy.link ≡ link) (λ e. e.2 ≡ link) }
+        ensures detached { IfOk result (λ s. s.replica.attached ≡ false) }
+        ensures link { MatchResult result (λ s. s.replica.link ≡ link) (λ e. e.2 ≡ link) }
         ensures quiet { IfOk result (λ s. D.faults s.file.disk ≡ D.faults disk) }
         ensures cause { IfErr result (λ e. CountsFault e.0 (D.faults disk) (D.faults e.1)) }
     {
@@ -105,7 +105,7 @@ impl<T: LockStore, D: Disk, L: Link> EnqServer<T, D, L> {
                 table: Some(table),
                 rest: Wreck {
                     backup,
-                    follower: Follower::new(alloc, link),
+                    replica: Replica::new(alloc, link),
                 },
             }),
             Err(fault) => Err((fault, backup.into_disk(), link)),
@@ -126,10 +126,10 @@ impl<T: LockStore, D: Disk, L: Link> EnqServer<T, D, L> {
         ensures ended { self.new.stands ≡ false }
         ensures table { self.new.table ≡ no_table }
         ensures file { self.new.file ≡ self.old.file }
-        ensures copy { self.new.copy ≡ self.old.copy }
+        ensures replica { self.new.replica ≡ self.old.replica }
         // While a replica follows, a link that tells its list has that of the table that goes.
-        ensures told { told_list L.applied self.new.copy
-            ≡ (if self.old.copy.attached && is_some (L.applied self.old.copy.link)
+        ensures told { told_list L.applied self.new.replica
+            ≡ (if self.old.replica.attached && is_some (L.applied self.old.replica.link)
             then self.old.table.entries else []) }
     {
         self.table = None;
@@ -143,16 +143,16 @@ impl<T: LockStore, D: Disk, L: Link> EnqServer<T, D, L> {
         ensures stands { OnOk result (self.new.stands ≡ true) }
         ensures kept { OnErr result (self.new.stands ≡ false) }
         ensures bare { OnErr result (self.new.table ≡ no_table) }
-        ensures table { OnOk result (self.new.table ≡ replicated limit (L.gives self.old.copy.link)) }
-        ensures sound { OnOk result (IsSound (L.gives self.old.copy.link)) }
+        ensures table { OnOk result (self.new.table ≡ replicated limit (L.gives self.old.replica.link)) }
+        ensures sound { OnOk result (IsSound (L.gives self.old.replica.link)) }
         ensures good { IsTable self.new.table }
-        ensures followed { OnOk result (self.old.copy.attached ≡ true) }
-        ensures detached { OnOk result (self.new.copy.attached ≡ false) }
+        ensures followed { OnOk result (self.old.replica.attached ≡ true) }
+        ensures detached { OnOk result (self.new.replica.attached ≡ false) }
         // A link that tells its list gives just that.
-        ensures told { IfSome (L.applied self.old.copy.link) (λ list. L.gives self.old.copy.link ≡ list) }
+        ensures told { IfSome (L.applied self.old.replica.link) (λ list. L.gives self.old.replica.link ≡ list) }
         ensures file { self.new.file ≡ self.old.file }
-        ensures fault { IfErr result (IsOverFault L.faults L.gives L.applied self.old.copy self.new.copy) }
-        ensures later { IsLater L.applied L.faults L.refusals self.old.copy self.new.copy }
+        ensures fault { IfErr result (IsOverFault L.faults L.gives L.applied self.old.replica self.new.replica) }
+        ensures later { IsLater L.applied L.faults L.refusals self.old.replica self.new.replica }
     {
         let table = self.rest.fail_over(alloc, limit)?;
         self.table = Some(table);
@@ -186,8 +186,8 @@ impl<T: LockStore, D: Disk, L: Link> EnqServer<T, D, L> {
             (λ _. Follows (FreesOthers units.now) (D.may_leave self.old.file.disk) (D.may_leave self.new.file.disk))
             (λ fault. Follows (Leaves units.now fault) (D.may_leave self.old.file.disk)
             (D.may_leave self.new.file.disk)) }
-        ensures detached { self.new.copy.attached ≡ false }
-        ensures link { self.new.copy.link ≡ self.old.copy.link }
+        ensures detached { self.new.replica.attached ≡ false }
+        ensures link { self.new.replica.link ≡ self.old.replica.link }
         ensures quiet { OnOk result (D.faults self.new.file.disk ≡ D.faults self.old.file.disk) }
         ensures cause { IfErr result
             (λ fault. CountsFault fault (D.faults self.old.file.disk) (D.faults self.new.file.disk)) }
@@ -212,18 +212,18 @@ impl<T: LockStore, D: Disk, L: Link> EnqServer<T, D, L> {
             (granting.asked self.old.table asker.now user.now requests.now ≡ Ok self.new.table.entries) }
         ensures refused { IfErr result (IsRefusal (granting.asked self.old.table asker.now user.now requests.now)) }
         ensures unchanged { OnErr result (self.new.table ≡ self.old.table) }
-        ensures unshipped { OnErr result (self.new.copy ≡ self.old.copy) }
+        ensures unshipped { OnErr result (self.new.replica ≡ self.old.replica) }
         ensures limit { self.new.table.limit ≡ self.old.table.limit }
         ensures good { IsTable self.new.table }
         ensures file { self.new.file ≡ self.old.file }
-        ensures copy { KeepsOn L.applied L.faults L.refusals self.old.copy self.new.copy }
-        ensures lost { IsLostWith self.old.copy self.new.copy self.old.table self.new.table }
+        ensures replica { KeepsOn L.applied L.faults L.refusals self.old.replica self.new.replica }
+        ensures lost { IsLostWith self.old.replica self.new.replica self.old.table self.new.table }
     {
         let Some(table) = &mut self.table else {
             unreachable!();
         };
         table.ask(alloc, asker, user, requests)?;
-        ship_granted(&mut self.rest.follower, table, asker, requests);
+        ship_granted(&mut self.rest.replica, table, asker, requests);
         Ok(())
     }
 
@@ -234,11 +234,11 @@ impl<T: LockStore, D: Disk, L: Link> EnqServer<T, D, L> {
             (freed self.old.table.entries (named owner.now asked.now)) }
         ensures good { IsTable self.new.table }
         ensures file { self.new.file ≡ self.old.file }
-        ensures copy { KeepsOn L.applied L.faults L.refusals self.old.copy self.new.copy }
-        ensures lost { IsLostWith self.old.copy self.new.copy self.old.table self.new.table }
+        ensures replica { KeepsOn L.applied L.faults L.refusals self.old.replica self.new.replica }
+        ensures lost { IsLostWith self.old.replica self.new.replica self.old.table self.new.table }
     {
         if let Some(table) = &mut self.table {
-            ship_freed(&mut self.rest.follower, table, owner, asked);
+            ship_freed(&mut self.rest.replica, table, owner, asked);
             table.free_one(owner, asked);
         }
     }
@@ -249,11 +249,11 @@ impl<T: LockStore, D: Disk, L: Link> EnqServer<T, D, L> {
         ensures after { self.new.table ≡ with_entries self.old.table (freed_owner self.old.table.entries owner.now) }
         ensures good { IsTable self.new.table }
         ensures file { self.new.file ≡ self.old.file }
-        ensures copy { KeepsOn L.applied L.faults L.refusals self.old.copy self.new.copy }
-        ensures lost { IsLostWith self.old.copy self.new.copy self.old.table self.new.table }
+        ensures replica { KeepsOn L.applied L.faults L.refusals self.old.replica self.new.replica }
+        ensures lost { IsLostWith self.old.replica self.new.replica self.old.table self.new.table }
     {
         if let Some(table) = &mut self.table {
-            ship_owner(&mut self.rest.follower, table, owner);
+            ship_owner(&mut self.rest.replica, table, owner);
             table.free_owner(owner);
         }
     }
@@ -273,19 +273,19 @@ impl<T: LockStore, D: Disk, L: Link> EnqServer<T, D, L> {
             (IsConverted self.old.table.entries asker.now asked.now self.new.table.entries) }
         ensures refused { IfErr result (IsRefusal (converted self.old.table.entries asker.now asked.now)) }
         ensures unchanged { OnErr result (self.new.table ≡ self.old.table) }
-        ensures unshipped { OnErr result (self.new.copy ≡ self.old.copy) }
+        ensures unshipped { OnErr result (self.new.replica ≡ self.old.replica) }
         ensures limit { self.new.table.limit ≡ self.old.table.limit }
         ensures good { IsTable self.new.table }
         ensures file { self.new.file ≡ self.old.file }
-        ensures copy { KeepsOn L.applied L.faults L.refusals self.old.copy self.new.copy }
-        ensures lost { IsLostWith self.old.copy self.new.copy self.old.table self.new.table }
+        ensures replica { KeepsOn L.applied L.faults L.refusals self.old.replica self.new.replica }
+        ensures lost { IsLostWith self.old.replica self.new.replica self.old.table self.new.table }
     {
         let Some(table) = &mut self.table else {
             unreachable!();
         };
         let removed = table.convert(alloc, asker, asked)?;
-        ship_turns(&mut self.rest.follower, asker, asked);
-        ship_drops(&mut self.rest.follower, removed.as_slice());
+        ship_turns(&mut self.rest.replica, asker, asked);
+        ship_drops(&mut self.rest.replica, removed.as_slice());
         Ok(())
     }
 
@@ -312,7 +312,7 @@ impl<T: LockStore, D: Disk, L: Link> EnqServer<T, D, L> {
         // The disk can fail only where there is a list to write.
         ensures some { IsErrOf result WriteFault.Failed → 1 ≤ length (lasting unit.now self.old.table.entries) }
         ensures cause { HasWriteCause (D.faults self.old.file.disk) (D.faults self.new.file.disk) result }
-        ensures copy { self.new.copy ≡ self.old.copy }
+        ensures replica { self.new.replica ≡ self.old.replica }
     {
         let entries = lasting(alloc, &self.table, unit, user)?;
         let Ok(count) = u32::try_from(entries.len()) else {
@@ -378,11 +378,11 @@ impl<T: LockStore, D: Disk, L: Link> EnqServer<T, D, L> {
         ensures after { self.new.table ≡ with_entries self.old.table (handed_over self.old.table.entries unit.now) }
         ensures good { IsTable self.new.table }
         ensures file { self.new.file ≡ self.old.file }
-        ensures copy { KeepsOn L.applied L.faults L.refusals self.old.copy self.new.copy }
-        ensures lost { IsLostWith self.old.copy self.new.copy self.old.table self.new.table }
+        ensures replica { KeepsOn L.applied L.faults L.refusals self.old.replica self.new.replica }
+        ensures lost { IsLostWith self.old.replica self.new.replica self.old.table self.new.table }
     {
         if let Some(table) = &mut self.table {
-            hand(&mut self.rest.follower, table, unit);
+            hand(&mut self.rest.replica, table, unit);
         }
     }
 
@@ -419,13 +419,13 @@ impl<T: LockStore, D: Disk, L: Link> EnqServer<T, D, L> {
         ensures known { OnOk result (AreWith unit.now entries.now self.old.file.units self.new.file.units) }
         ensures usable { OnOk result (self.new.file.failed ≡ false) }
         ensures untouched { IfErr result (λ f. f ≡ server.Failed ⊎ IsSame self.old.file self.new.file) }
-        ensures unshipped { IfErr result (λ f. f ≡ server.Failed ⊎ (self.new.copy ≡ self.old.copy)) }
+        ensures unshipped { IfErr result (λ f. f ≡ server.Failed ⊎ (self.new.replica ≡ self.old.replica)) }
         ensures failed { IsErrOf result server.Failed → self.new.file.failed ≡ true }
         // The disk can fail only where there is a list to write.
         ensures some { IsErrOf result server.Failed → 1 ≤ length entries.now }
         ensures cause { HasCallCause (D.faults self.old.file.disk) (D.faults self.new.file.disk) result }
-        ensures copy { KeepsOn L.applied L.faults L.refusals self.old.copy self.new.copy }
-        ensures lost { IsLostWith self.old.copy self.new.copy self.old.table self.new.table }
+        ensures replica { KeepsOn L.applied L.faults L.refusals self.old.replica self.new.replica }
+        ensures lost { IsLostWith self.old.replica self.new.replica self.old.table self.new.table }
     {
         let Ok(own) = self.entries_of(alloc, &asker.update) else {
             return Err(ServerFault::NoMemory);
@@ -458,7 +458,7 @@ impl<T: LockStore, D: Disk, L: Link> EnqServer<T, D, L> {
         ensures table { OnOk result
             (self.new.table ≡ with_entries self.old.table (freed_owner self.old.table.entries (Upd unit.now))) }
         ensures kept { OnErr result (self.new.table ≡ self.old.table) }
-        ensures unshipped { OnErr result (self.new.copy ≡ self.old.copy) }
+        ensures unshipped { OnErr result (self.new.replica ≡ self.old.replica) }
         ensures freed { IsTrue D.tells → (l : List Handed) → IsReady D.reads D.may_leave self.old.file l
             → OnOk result (IsReady D.reads D.may_leave self.new.file (lists.without unit.now l)) }
         ensures images { IsTrue D.tells → (l : List Handed) → IsReady D.reads D.may_leave self.old.file l
@@ -469,8 +469,8 @@ impl<T: LockStore, D: Disk, L: Link> EnqServer<T, D, L> {
         // The disk can fail only where the unit's list stands.
         ensures needed { OnErr result (IsTrue (is_known unit.now self.old.file.units)) }
         ensures cause { HasCause (D.faults self.old.file.disk) (D.faults self.new.file.disk) result }
-        ensures copy { KeepsOn L.applied L.faults L.refusals self.old.copy self.new.copy }
-        ensures lost { IsLostWith self.old.copy self.new.copy self.old.table self.new.table }
+        ensures replica { KeepsOn L.applied L.faults L.refusals self.old.replica self.new.replica }
+        ensures lost { IsLostWith self.old.replica self.new.replica self.old.table self.new.table }
     {
         if self.rest.backup.stands(unit) {
             self.rest.backup.free(unit)?;
@@ -492,7 +492,7 @@ impl<T: LockStore, D: Disk, L: Link> EnqServer<T, D, L> {
         ensures standing { self.new.stands ≡ self.old.stands }
         ensures table { self.new.table ≡ self.old.table }
         ensures file { IsSame self.old.file self.new.file }
-        ensures copy { self.new.copy ≡ self.old.copy }
+        ensures replica { self.new.replica ≡ self.old.replica }
     {
         if entries.is_empty() {
             return Ok(None);
@@ -509,7 +509,7 @@ impl<T: LockStore, D: Disk, L: Link> EnqServer<T, D, L> {
         requires room { IfSome ready (λ _. 1 ≤ self.old.file.room) }
         ensures standing { self.new.stands ≡ self.old.stands }
         ensures table { self.new.table ≡ self.old.table }
-        ensures copy { self.new.copy ≡ self.old.copy }
+        ensures replica { self.new.replica ≡ self.old.replica }
         ensures listed { IsTrue D.tells → (unit : UnitKey) (entries : List Entry) → IsListFor unit entries ready
             → (l : List Handed) → IsReady D.reads D.may_leave self.old.file l
             → OnOk result (IsReady D.reads D.may_leave self.new.file (with_list unit entries l)) }
@@ -548,19 +548,19 @@ impl<T: LockStore, D: Disk, L: Link> EnqServer<T, D, L> {
             (granting.readmitted self.old.table asker.now entries.now ≡ Ok self.new.table.entries) }
         ensures refused { IfErr result (IsRefusal (granting.readmitted self.old.table asker.now entries.now)) }
         ensures unchanged { OnErr result (self.new.table ≡ self.old.table) }
-        ensures unshipped { OnErr result (self.new.copy ≡ self.old.copy) }
+        ensures unshipped { OnErr result (self.new.replica ≡ self.old.replica) }
         ensures limit { self.new.table.limit ≡ self.old.table.limit }
         ensures good { IsTable self.new.table }
         ensures file { self.new.file ≡ self.old.file }
-        ensures copy { KeepsOn L.applied L.faults L.refusals self.old.copy self.new.copy }
-        ensures lost { IsLostWith self.old.copy self.new.copy self.old.table self.new.table }
+        ensures replica { KeepsOn L.applied L.faults L.refusals self.old.replica self.new.replica }
+        ensures lost { IsLostWith self.old.replica self.new.replica self.old.table self.new.table }
     {
         let Some(table) = &mut self.table else {
             unreachable!();
         };
         let stays = stays_so(alloc, table, asker, own, entries)?;
         table.readmit(alloc, asker, entries)?;
-        ship_readmitted(&mut self.rest.follower, own, entries, stays);
+        ship_readmitted(&mut self.rest.replica, own, entries, stays);
         Ok(())
     }
 
@@ -568,18 +568,18 @@ impl<T: LockStore, D: Disk, L: Link> EnqServer<T, D, L> {
     pub fn attach(&mut self, alloc: Global) -> Result<(), LinkFault>
         requires stands { self.old.stands ≡ true }
         ensures standing { self.new.stands ≡ true }
-        ensures attached { OnOk result (self.new.copy.attached ≡ true) }
-        ensures detached { OnErr result (self.new.copy.attached ≡ false) }
-        ensures later { IsLater L.applied L.faults L.refusals self.old.copy self.new.copy }
+        ensures attached { OnOk result (self.new.replica.attached ≡ true) }
+        ensures detached { OnErr result (self.new.replica.attached ≡ false) }
+        ensures later { IsLater L.applied L.faults L.refusals self.old.replica self.new.replica }
         ensures failed { IsErrOf result LinkFault.Failed
-            → Rose (L.faults self.old.copy.link) (L.faults self.new.copy.link) }
+            → Rose (L.faults self.old.replica.link) (L.faults self.new.replica.link) }
         ensures table { self.new.table ≡ self.old.table }
         ensures file { self.new.file ≡ self.old.file }
     {
         match self.list(alloc) {
-            Ok(entries) => self.rest.follower.attach(entries.as_slice()),
+            Ok(entries) => self.rest.replica.attach(entries.as_slice()),
             Err(NoMemory) => {
-                self.rest.follower.detach();
+                self.rest.replica.detach();
                 Err(LinkFault::NoMemory)
             }
         }
@@ -587,11 +587,11 @@ impl<T: LockStore, D: Disk, L: Link> EnqServer<T, D, L> {
 
     /// Whether a replica follows the table, or followed the one that went. It takes no memory.
     pub fn attached(&self) -> bool
-        ensures flag { result ≡ self.now.copy.attached }
+        ensures flag { result ≡ self.now.replica.attached }
         ensures given { IsTrue result → self.now.stands ≡ true
-            → IfSome (L.applied self.now.copy.link) (λ _. L.gives self.now.copy.link ≡ self.now.table.entries) }
+            → IfSome (L.applied self.now.replica.link) (λ _. L.gives self.now.replica.link ≡ self.now.table.entries) }
         ensures listed { IsTrue result
-            → IfSome (L.applied self.now.copy.link) (λ list. told_list L.applied self.now.copy ≡ list) }
+            → IfSome (L.applied self.now.replica.link) (λ list. told_list L.applied self.now.replica ≡ list) }
     {
         self.rest.attached()
     }
@@ -599,7 +599,7 @@ impl<T: LockStore, D: Disk, L: Link> EnqServer<T, D, L> {
     /// The disk and the link. It takes no memory.
     pub fn into_parts(self) -> (D, L)
         ensures disk { result.0 ≡ self.file.disk }
-        ensures link { result.1 ≡ self.copy.link }
+        ensures link { result.1 ≡ self.replica.link }
     {
         let EnqServer { table, rest } = self;
         drop(table);

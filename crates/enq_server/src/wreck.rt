@@ -1,15 +1,15 @@
 ghost use Rattle.std.specs.Prelude.{◌≡◌, IfErr, IfOk, IfSome, IsTrue, MatchResult, OnErr, OnOk, false, true};
 ghost use Rattle.bk_disk.specs.Disk.{Follows};
 ghost use Rattle.enq_server.specs.Faults.{CountsFault, IsOpenFault, Leaves, OnBytes};
-ghost use Rattle.enq_server.specs.Following.{IsLater, IsOverFault};
+ghost use Rattle.enq_server.specs.Replica.{IsLater, IsOverFault};
 ghost use Rattle.enq_server.specs.Recovery.{AreKnown, FreesOthers, locking};
 ghost use Rattle.enq_server.specs.Server.{IsRecovered, recovered, replicated};
 ghost use Rattle.lock_entry.specs.Sound.{IsSound};
 ghost use Rattle.lock_entry.specs.Table.{IsTable};
 
 use crate::fault::{OpenFault, OverFault};
-use crate::follower::Follower;
 use crate::recovery::{load_list, read_anew};
+use crate::replica::Replica;
 use backup_file::Backup;
 use bk_disk::Disk;
 use lock_entry::{LoadFault, LockStore, UnitLocks};
@@ -23,7 +23,7 @@ use std::marker::Model;
 #[derive(Drop)]
 pub struct Wreck<D: Disk, L: Link> {
     pub(crate) backup: Backup<D>,
-    pub(crate) follower: Follower<L>,
+    pub(crate) replica: Replica<L>,
 }
 
 impl<D: Disk, L: Link> Model for Wreck<D, L> {
@@ -31,7 +31,7 @@ impl<D: Disk, L: Link> Model for Wreck<D, L> {
 
     ghost Value = { Remains D L };
 
-    ghost view = { λ w. record { file = w.backup; copy = w.follower } };
+    ghost view = { λ w. record { file = w.backup; replica = w.replica } };
 }
 
 impl<D: Disk, L: Link> Wreck<D, L> {
@@ -42,28 +42,28 @@ impl<D: Disk, L: Link> Wreck<D, L> {
         alloc: Global,
         limit: u32,
     ) -> Result<T, OverFault>
-        ensures table { IfOk result (λ table. T.table table ≡ replicated limit (L.gives self.old.copy.link)) }
-        ensures sound { OnOk result (IsSound (L.gives self.old.copy.link)) }
+        ensures table { IfOk result (λ table. T.table table ≡ replicated limit (L.gives self.old.replica.link)) }
+        ensures sound { OnOk result (IsSound (L.gives self.old.replica.link)) }
         ensures good { IfOk result (λ table. IsTable (T.table table)) }
-        ensures followed { OnOk result (self.old.copy.attached ≡ true) }
-        ensures detached { OnOk result (self.new.copy.attached ≡ false) }
+        ensures followed { OnOk result (self.old.replica.attached ≡ true) }
+        ensures detached { OnOk result (self.new.replica.attached ≡ false) }
         // A link that tells its list gives just that.
-        ensures told { IfSome (L.applied self.old.copy.link) (λ list. L.gives self.old.copy.link ≡ list) }
+        ensures told { IfSome (L.applied self.old.replica.link) (λ list. L.gives self.old.replica.link ≡ list) }
         ensures file { self.new.file ≡ self.old.file }
-        ensures fault { IfErr result (IsOverFault L.faults L.gives L.applied self.old.copy self.new.copy) }
-        ensures later { IsLater L.applied L.faults L.refusals self.old.copy self.new.copy }
+        ensures fault { IfErr result (IsOverFault L.faults L.gives L.applied self.old.replica self.new.replica) }
+        ensures later { IsLater L.applied L.faults L.refusals self.old.replica self.new.replica }
     {
-        if !self.follower.attached() {
+        if !self.replica.attached() {
             return Err(OverFault::NotAttached);
         }
-        let list = self.follower.hand_over()?;
+        let list = self.replica.hand_over()?;
         match load_list(alloc, limit, list) {
             Ok(table) => {
-                self.follower.detach();
+                self.replica.detach();
                 Ok(table)
             }
             Err(LoadFault::Clash { first, second }) => {
-                self.follower.detach();
+                self.replica.detach();
                 Err(OverFault::Clash { first, second })
             }
             Err(LoadFault::NoMemory) => Err(OverFault::NoMemory),
@@ -93,29 +93,29 @@ impl<D: Disk, L: Link> Wreck<D, L> {
             (λ _. Follows (FreesOthers units.now) (D.may_leave self.old.file.disk) (D.may_leave self.new.file.disk))
             (λ fault. Follows (Leaves units.now fault) (D.may_leave self.old.file.disk)
             (D.may_leave self.new.file.disk)) }
-        ensures detached { self.new.copy.attached ≡ false }
-        ensures link { self.new.copy.link ≡ self.old.copy.link }
+        ensures detached { self.new.replica.attached ≡ false }
+        ensures link { self.new.replica.link ≡ self.old.replica.link }
         ensures quiet { OnOk result (D.faults self.new.file.disk ≡ D.faults self.old.file.disk) }
         ensures cause { IfErr result
             (λ fault. CountsFault fault (D.faults self.old.file.disk) (D.faults self.new.file.disk)) }
     {
-        self.follower.detach();
+        self.replica.detach();
         read_anew(alloc, &mut self.backup, limit, units)
     }
 
     /// Whether a replica follows the table, or followed the one that went. It takes no memory.
     pub(crate) fn attached(&self) -> bool
-        ensures { result ≡ self.now.copy.attached }
+        ensures { result ≡ self.now.replica.attached }
     {
-        self.follower.attached()
+        self.replica.attached()
     }
 
     /// The disk and the link. It takes no memory.
     pub(crate) fn into_parts(self) -> (D, L)
         ensures disk { result.0 ≡ self.file.disk }
-        ensures link { result.1 ≡ self.copy.link }
+        ensures link { result.1 ≡ self.replica.link }
     {
-        let Wreck { backup, follower } = self;
-        (backup.into_disk(), follower.into_link())
+        let Wreck { backup, replica } = self;
+        (backup.into_disk(), replica.into_link())
     }
 }

@@ -3,7 +3,7 @@ use Rattle.std.proofs.Common.{◌≡◌, ℕ, Bool, true, false, sym, ◌∙◌}
 use Rattle.std.specs.Prelude.{List, Option}
 use Rattle.enq_base.specs.declared.condition.Condition.{Condition}
 use Rattle.enq_base.specs.declared.condition.Condition.TheVariants as condition
-use Rattle.enq_server.specs.Following.{Following, KeepsOn}
+use Rattle.enq_server.specs.Replica.{KeepsOn, ReplicaView}
 use Rattle.hall_model.specs.Devices.{is_doubt}
 use Rattle.hall_calls.specs.Serving.{LosesOnly}
 use Rattle.hall_model.specs.State.{State, attached_in}
@@ -20,7 +20,7 @@ lost condition.NoServer on h calm = h
 lost (condition.Doubt k) on h calm = absurd (cc)
 
 -- what follows is lost for the state where it is lost for the link
-pub loses_only : {L : Type 0} (applied : L → Option (List Entry)) (faults refusals : L → ℕ) (old new : Following L) (s t : State)
+pub loses_only : {L : Type 0} (applied : L → Option (List Entry)) (faults refusals : L → ℕ) (old new : ReplicaView L) (s t : State)
     → s.attached ≡ attached_in s.condition old.attached → t.attached ≡ attached_in t.condition new.attached → KeepsOn applied faults refusals old new
     → LosesOnly (faults old.link) (faults new.link) (refusals old.link) (refusals new.link) s t
 loses_only applied faults refusals old new s t before now keeps on off calm =

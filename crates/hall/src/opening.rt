@@ -11,7 +11,7 @@ ghost use Rattle.lock_entry.specs.Table.{IsTable};
 use bk_disk::Disk;
 use enq_base::{Bad, NoMemory, UnitKey};
 use enq_server::{EnqServer, OpenFault};
-use hall_calls::HISTORY_LIMIT;
+use hall_calls::{HISTORY_LIMIT, Limits};
 use hall_model::PastEntry;
 use ledger_steps::LevelFault;
 use lock_entry::{LockStore, UnitLocks};
@@ -44,6 +44,13 @@ pub enum HallFault {
 pub(crate) struct Tables {
     pub(crate) orders: Vec<Option<UnitKey>>,
     pub(crate) past: Vec<PastEntry>,
+}
+
+/// What a hall begins with: its tables, and how many locks and marks there may be.
+#[derive(Drop)]
+pub(crate) struct Beginning {
+    pub(crate) tables: Tables,
+    pub(crate) limits: Limits,
 }
 
 impl Tables {
@@ -106,8 +113,8 @@ pub(crate) fn first_locks<T: LockStore, D: Disk, L: Link>(
         → IfOk result (λ locks. IsRecovered D.reads D.may_leave (D.reads disk) units.now locks.file) }
     ensures usable { IfOk result (λ locks. locks.file.failed ≡ false) }
     ensures known { IfOk result (λ locks. AreKnown locks.file.units (locking units.now)) }
-    ensures detached { IfOk result (λ locks. locks.copy.attached ≡ false) }
-    ensures link { MatchResult result (λ locks. locks.copy.link ≡ link) (λ e. e.2 ≡ link) }
+    ensures detached { IfOk result (λ locks. locks.replica.attached ≡ false) }
+    ensures link { MatchResult result (λ locks. locks.replica.link ≡ link) (λ e. e.2 ≡ link) }
     ensures counts { IfOk result (λ locks. D.faults locks.file.disk ≡ D.faults disk) }
     ensures fault { IfErr result (λ e. IsFileFault D.tells (D.reads disk) units.now e.0) }
     // What is left of the file then.

@@ -1,6 +1,6 @@
 pub mod verdicts
 pub mod ending
-pub mod following
+pub mod replica
 pub mod restarting
 pub mod RangesShown
 pub mod lists

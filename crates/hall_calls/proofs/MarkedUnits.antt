@@ -1,6 +1,6 @@
 -- How calls end that write a mark of a unit, or let its locks stand again.
 use Rattle.std.proofs.Common.{◌≡◌, ◌⊎◌, inl, inr, ℕ, ◌≤◌, Bool, true, false, true≢false, ◌&&◌, List, length, refl, sym, ap, ◌∙◌, subst, arith}
-use Rattle.std.specs.Prelude.{if◌then◌else◌, nat_eq, nat_le, Option, Some, None, Result, Ok, Err, IfSome, IsTrue, OnErr, OnOk, is_some, set}
+use Rattle.std.specs.Prelude.{if◌then◌else◌, nat_le, Option, Some, None, Result, Ok, Err, IfSome, IsTrue, OnErr, OnOk, is_some, set}
 use Rattle.std.specs.List.{AllByRecursion}
 use Rattle.std.proofs.lemmas.Bool.{and_parts}
 use Rattle.backup_file.specs.Backup.{BackupView, IsReady}
@@ -13,9 +13,9 @@ use Rattle.enq_base.specs.declared.refusal.Refusal.{Refusal}
 use Rattle.enq_base.specs.declared.refusal.Refusal.TheVariants as refusal
 use Rattle.enq_base.specs.declared.unit.Status.{Status}
 use Rattle.enq_base.specs.declared.unit.Status.TheVariants.{Bad, Bad2}
-use Rattle.enq_server.proofs.lemmas.Following.{keeps_none}
+use Rattle.enq_server.proofs.lemmas.Replicas.{keeps_none}
 use Rattle.enq_server.specs.Faults.{IsReadmission}
-use Rattle.enq_server.specs.Following.{IsLostWith, KeepsOn}
+use Rattle.enq_server.specs.Replica.{IsLostWith, KeepsOn}
 use Rattle.enq_server.specs.Recovery.{AreWithout}
 use Rattle.enq_server.specs.Server.{Server, with_list}
 use Rattle.enq_server.specs.declared.fault.ServerFault.{ServerFault}
@@ -53,17 +53,19 @@ use Rattle.hall_calls.specs.Filing.{FilesAs, FreesList, HasFileCause, HasOpenLis
 use Rattle.hall_calls.specs.Leaving.{HasStoreCause, KeepsStore}
 use Rattle.hall_calls.specs.Marking.{EndsList, IsMarked, IsNoted, Readmits, ServesOn, orders_behind, unit_to_post}
 use Rattle.hall_calls.specs.Storing.{EndsAs, TriesStep}
-use Rattle.hall_calls.specs.Written.{IsWritten, OnFailure, OnStoreFailure, locks_posted, post_of}
+use Rattle.hall_calls.specs.Written.{IsWritten, OnFailure, OnStoreFailure, locks_posted}
 use Rattle.hall_calls.specs.declared.units.Written.{Written}
 use Rattle.hall_calls.specs.declared.units.Written.TheVariants.{Answered, Failed, Unfiled}
 use Rattle.hall_calls.proofs.ending.AfterStop.{also_answered, also_store_failed, answered_leaves, unread_leaves}
 use Rattle.hall_calls.proofs.ending.OverFile.{failed_before, failed_files, half_written_files, ready_stands, same_file, written_files}
-use Rattle.hall_calls.proofs.ending.StateBehind.{IsPart}
 use Rattle.hall_calls.proofs.lists.AsCallsEnd.{again2_agree, again2_known, again2_lists, ended_so, gone_agree, gone_half, gone_known, gone_lists, posted_agree, posted_half, posted_known, posted_lists, was_bad}
 use Rattle.hall_calls.proofs.lists.BehindMarks.{reopened_lists}
 use Rattle.hall_calls.proofs.lemmas.WaitingLists.{again_known}
 use Rattle.hall_calls.proofs.verdicts.Ungranted.{again_agrees, ungranted_keeps, ungranted_leaves, ungranted_quiet}
 use Rattle.hall_calls.proofs.verdicts.UnitCalls.{cancels, cancels_in_doubt, cancels_unfiled, posts, posts_full, posts_in_doubt, posts_none, posts_unfiled, reopens, reopens_in_doubt, reposts, reposts_in_doubt}
+use Rattle.ledger_steps.specs.declared.part.Part.{Part}
+use Rattle.ledger_steps.specs.Parts.{is_first}
+use Rattle.hall_model.specs.Calls.{post_of}
 
 -- ---- the lock server
 
@@ -83,18 +85,19 @@ module _ {D L : Type 0} (applied : L → Option (List Entry)) (faults refusals :
   serves_still s = record {
     limit = refl;
     standing = refl;
-    follower = keeps_none applied faults refusals s.copy;
+    replica = keeps_none applied faults refusals s.replica;
     lost = λ on off same. true≢false (sym on ∙ off);
   }
 
   -- behind a step that leaves all but the file
-  pub serves_behind : (old mid new : Server D L) → mid.stands ≡ old.stands → mid.table ≡ old.table → mid.copy ≡ old.copy
+  pub serves_behind : (old mid new : Server D L) → mid.stands ≡ old.stands → mid.table ≡ old.table → mid.replica ≡ old.replica
       → ServesOn applied faults refusals mid new → ServesOn applied faults refusals old new
-  serves_behind old mid new stands table copy h = record {
+  serves_behind old mid new stands table replica h = record {
     limit = h.limit ∙ ap (λ (t : Table). t.limit) table;
     standing = h.standing ∙ stands;
-    follower = subst (λ f. KeepsOn applied faults refusals f new.copy) copy h.follower;
-    lost = subst (λ f. IsLostWith f new.copy old.table new.table) copy (subst (λ (t : Table). IsLostWith mid.copy new.copy t new.table) table h.lost);
+    replica = subst (λ f. KeepsOn applied faults refusals f new.replica) replica h.replica;
+    lost = subst (λ f. IsLostWith f new.replica old.table new.table) replica
+        (subst (λ (t : Table). IsLostWith mid.replica new.replica t new.table) table h.lost);
   }
 
 -- ---- answers
@@ -118,20 +121,20 @@ unrefused_keeps_file old new (reply.Refused x) on = absurd on
 unrefused_keeps_file old new (reply.Row text) on = absurd on
 unrefused_keeps_file old new _ on = tt
 
-pub posted_unrefused : (part : ℕ) (unit : UnitKey) (o : Outcome) → IsUnrefused (Answered (posted_reply part unit o))
+pub posted_unrefused : (part : Part) (unit : UnitKey) (o : Outcome) → IsUnrefused (Answered (posted_reply part unit o))
 posted_unrefused part unit outcome.Done =
-    elim (nat_eq part 1) as (λ b. IsUnrefused (Answered (if b then reply.Posted unit else reply.Closed unit))) [ true ↦ tt | false ↦ tt ]
+    elim (is_first part) as (λ b. IsUnrefused (Answered (if b then reply.Posted unit else reply.Closed unit))) [ true ↦ tt | false ↦ tt ]
 posted_unrefused part unit (outcome.Refused index reason) =
-    elim (nat_eq part 1) as (λ b. IsUnrefused (Answered (if b then reply.Bad unit index reason else reply.Bad2 unit index reason))) [ true ↦ tt | false ↦ tt ]
+    elim (is_first part) as (λ b. IsUnrefused (Answered (if b then reply.Bad unit index reason else reply.Bad2 unit index reason))) [ true ↦ tt | false ↦ tt ]
 
-posted_orders : (part : ℕ) (unit : UnitKey) (o : Outcome) (orders : List (Option UnitKey)) (worker : ℕ)
+posted_orders : (part : Part) (unit : UnitKey) (o : Outcome) (orders : List (Option UnitKey)) (worker : ℕ)
     → orders_behind orders worker (Answered (posted_reply part unit o)) ≡ set orders worker None
 posted_orders part unit outcome.Done orders worker =
-    elim (nat_eq part 1)
+    elim (is_first part)
     as (λ b. orders_behind orders worker (Answered (if b then reply.Posted unit else reply.Closed unit)) ≡ set orders worker None)
     [ true ↦ refl | false ↦ refl ]
 posted_orders part unit (outcome.Refused index reason) orders worker =
-    elim (nat_eq part 1)
+    elim (is_first part)
     as (λ b. orders_behind orders worker (Answered (if b then reply.Bad unit index reason else reply.Bad2 unit index reason)) ≡ set orders worker None)
     [ true ↦ refl | false ↦ refl ]
 
@@ -320,14 +323,14 @@ gone_ends ledger unit status ends here may is =
       half = λ given h. gone_half ledger unit (is_open status) given h;
     })
 
-pub posted_ends : (part : ℕ) → IsPart part → (ledger : Ledger) (unit : UnitKey) (o : Outcome) (kind : MarkKind) → WaitsFor part ledger unit
-    → kind ≡ kind_for part o → EndsList (nat_eq part 1) ledger (with_mark ledger unit kind) unit
-posted_ends part is ledger unit o kind waits k =
-    subst (λ x. EndsList (nat_eq part 1) ledger (with_mark ledger unit x) unit) (sym k) (record {
-      known = λ old new are stays. posted_known part is ledger unit o old new waits are stays;
-      lists = λ given h. posted_lists part is ledger unit o waits given h;
-      agree = λ given h. posted_agree part is ledger unit o given h;
-      half = λ given h. posted_half part is ledger unit o given h;
+pub posted_ends : (part : Part) → (ledger : Ledger) (unit : UnitKey) (o : Outcome) (kind : MarkKind) → WaitsFor part ledger unit
+    → kind ≡ kind_for part o → EndsList (is_first part) ledger (with_mark ledger unit kind) unit
+posted_ends part ledger unit o kind waits k =
+    subst (λ x. EndsList (is_first part) ledger (with_mark ledger unit x) unit) (sym k) (record {
+      known = λ old new are stays. posted_known part ledger unit o old new waits are stays;
+      lists = λ given h. posted_lists part ledger unit o waits given h;
+      agree = λ given h. posted_agree part ledger unit o given h;
+      half = λ given h. posted_half part ledger unit o given h;
     })
 
 -- ---- what calls come to
@@ -373,27 +376,27 @@ reposts_as s entries ledger now limit unit f g m room h (Failed (Some (Note key 
     (reposts_in_doubt s ledger limit unit g m room h)
 reposts_as s entries ledger now limit unit f g m room h _ is = absurd is
 
-pub posts_as : (part : ℕ) (s : State) (told : Bool) (entries left : List Entry) (ledger now : Ledger) (worker : ℕ) (unit : UnitKey) (o : Outcome)
-    (kind : MarkKind) (said : Reply) → IsPart part → s.told ≡ told → (nat_eq part 1 ≡ true → s.locks ≡ entries) → s.stored ≡ ledger
+pub posts_as : (part : Part) (s : State) (told : Bool) (entries left : List Entry) (ledger now : Ledger) (worker : ℕ) (unit : UnitKey) (o : Outcome)
+    (kind : MarkKind) (said : Reply) → s.told ≡ told → (is_first part ≡ true → s.locks ≡ entries) → s.stored ≡ ledger
     → Admits s (post_of part worker) → order_for part ledger s.orders worker ≡ Some unit → nat_le s.mark_limit (length ledger.marks) ≡ false
     → MayComeTo told ledger part unit o → kind ≡ kind_for part o → said ≡ posted_reply part unit o → (w : Written)
-    → IsNoted ledger now entries left (nat_eq part 1) unit kind said w
+    → IsNoted ledger now entries left (is_first part) unit kind said w
     → IsWritten s (post_of part worker)
     (record s { orders = orders_behind s.orders worker w; locks = locks_posted part s.locks left; stored = now }) w
-posts_as part s told entries left ledger now worker unit o kind said is t f g room found space may k r (Answered x) h =
+posts_as part s told entries left ledger now worker unit o kind said t f g room found space may k r (Answered x) h =
     subst (λ y. IsAct s (post_of part worker)
     (record s { orders = orders_behind s.orders worker (Answered y); locks = locks_posted part s.locks left; stored = now }) y) (sym (h.0 ∙ r))
-    (posts part s told s.orders (orders_behind s.orders worker (Answered (posted_reply part unit o))) entries left ledger now s.mark_limit worker unit o is t
+    (posts part s told s.orders (orders_behind s.orders worker (Answered (posted_reply part unit o))) entries left ledger now s.mark_limit worker unit o t
     refl
     f g refl room found space may (posted_orders part unit o s.orders worker) h.2 (h.1 ∙ ap (with_mark ledger unit) k))
-posts_as part s told entries left ledger now worker unit o kind said is t f g room found space may k r (Failed (Some (Note key noted))) h =
+posts_as part s told entries left ledger now worker unit o kind said t f g room found space may k r (Failed (Some (Note key noted))) h =
     subst (λ (st : Step). IsWritten s (post_of part worker)
     (record s { orders = s.orders; locks = locks_posted part s.locks left; stored = now }) (Failed (Some st)))
     (λ i. Note (sym h.0 i) (sym (h.1 ∙ k) i))
-    (posts_in_doubt part s told s.orders ledger s.mark_limit worker unit o is t refl g refl room found space may)
-posts_as part s told entries left ledger now worker unit o kind said is t f g room found space may k r Unfiled h =
-    posts_unfiled part s told s.orders ledger now s.mark_limit worker unit o is h.1 t refl g refl room found space may (h.0 ∙ ap (with_mark ledger unit) k)
-posts_as part s told entries left ledger now worker unit o kind said is t f g room found space may k r _ h = absurd h
+    (posts_in_doubt part s told s.orders ledger s.mark_limit worker unit o t refl g refl room found space may)
+posts_as part s told entries left ledger now worker unit o kind said t f g room found space may k r Unfiled h =
+    posts_unfiled part s told s.orders ledger now s.mark_limit worker unit o h.1 t refl g refl room found space may (h.0 ∙ ap (with_mark ledger unit) k)
+posts_as part s told entries left ledger now worker unit o kind said t f g room found space may k r _ h = absurd h
 
 -- ---- why nothing is posted
 
@@ -430,13 +433,13 @@ pub not_posted_plainly : (o : Option UnitKey) (full : Bool) (limit : ℕ) (r : R
 not_posted_plainly o full limit r (inl none) = subst IsPlain none.1 refl
 not_posted_plainly o full limit r (inr over) = subst IsPlain over.3 refl
 
-pub posts_not : (part : ℕ) (s : State) (orders : List (Option UnitKey)) (entries : List Entry) (ledger : Ledger) (limit worker : ℕ) (r : Refusal)
-    → IsPart part → s.orders ≡ orders → (nat_eq part 1 ≡ true → s.locks ≡ entries) → s.stored ≡ ledger → s.mark_limit ≡ limit → Admits s (post_of part worker)
+pub posts_not : (part : Part) (s : State) (orders : List (Option UnitKey)) (entries : List Entry) (ledger : Ledger) (limit worker : ℕ) (r : Refusal)
+    → s.orders ≡ orders → (is_first part ≡ true → s.locks ≡ entries) → s.stored ≡ ledger → s.mark_limit ≡ limit → Admits s (post_of part worker)
     → IsNotPosted (order_for part ledger orders worker) (nat_le limit (length ledger.marks)) limit r
     → IsAct s (post_of part worker) (record s { orders = orders; locks = locks_posted part s.locks entries; stored = ledger }) (reply.Refused r)
-posts_not part s orders entries ledger limit worker r is e f g m room (inl none) =
+posts_not part s orders entries ledger limit worker r e f g m room (inl none) =
     subst (λ x. IsAct s (post_of part worker) (record s { orders = orders; locks = locks_posted part s.locks entries; stored = ledger }) (reply.Refused x))
-    none.1 (posts_none part s orders entries ledger worker is e f g room none.0)
-posts_not part s orders entries ledger limit worker r is e f g m room (inr over) =
+    none.1 (posts_none part s orders entries ledger worker e f g room none.0)
+posts_not part s orders entries ledger limit worker r e f g m room (inr over) =
     subst (λ x. IsAct s (post_of part worker) (record s { orders = orders; locks = locks_posted part s.locks entries; stored = ledger }) (reply.Refused x))
-    over.3 (posts_full part s orders entries ledger limit worker over.0 is e f g m room over.1 over.2)
+    over.3 (posts_full part s orders entries ledger limit worker over.0 e f g m room over.1 over.2)

@@ -1,5 +1,6 @@
 -- What becomes of a session's unit that is to be recorded, or of its numbers alone.
-use Rattle.std.specs.Prelude.{◌≡◌, ◌≤◌, ◌+◌, ◌++◌, ℕ, Bool, false, List, length, nat_le, None, Some, IfErr, OnOk, Result}
+use Rattle.std.specs.Prelude.{◌≡◌, ◌≤◌, ◌+◌, ◌++◌, ℕ, Bool, false, List, length, nat_le, None, Some, IfErr, OnOk}
+use Rattle.std.specs.Prelude.{Result}
 use Rattle.backup_file.specs.declared.fault.WriteFault.{WriteFault}
 use Rattle.backup_file.specs.declared.fault.WriteFault.TheVariants as write
 use Rattle.update_records.specs.Marks.{status_of, unit_at}
@@ -128,4 +129,4 @@ pub record SavesList {T D L : Type 0} (tells : Bool) (reads : D → List ℕ) (m
   pub needed : IfErr result (λ f. f ≡ write.Failed → 1 ≤ length (lasting unit.key old.table.entries))
   pub stands : new.stands ≡ old.stands
   pub table : new.table ≡ old.table
-  pub copy : new.copy ≡ old.copy
+  pub replica : new.replica ≡ old.replica

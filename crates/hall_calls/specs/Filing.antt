@@ -26,7 +26,7 @@ use Rattle.hall_calls.specs.Written.{OnAnswer, written_reply}
 use Rattle.ledger_steps.specs.Steps.{after_step}
 use Rattle.hall_model.specs.Kept.{OutsideDoubt}
 use Rattle.hall_calls.specs.OpenLists.{AgreeAll, AreOpenLists}
-use Rattle.hall_model.specs.OpenUnits.{OfPending, waits_with_locks}
+use Rattle.hall_model.specs.OpenUnits.{OfInFlight, waits_with_locks}
 use Rattle.hall_calls.specs.View.{View}
 use Rattle.hall_model.specs.Step.{ask_refusal}
 use Rattle.hall_model.specs.declared.command.Reply.{Reply}
@@ -67,24 +67,24 @@ UnlessUntaken (Some true) P = P
 
 -- An image stands for lists with which the open units agree, those of what the store has and those of the change in
 -- flight, but for what it is known not to have. Outside doubt there are no others.
-pub record RecoversFrom (condition : Condition) (stored : Ledger) (pending : Option Ledger) (found : Option Bool)
+pub record RecoversFrom (condition : Condition) (stored : Ledger) (in_flight : Option Ledger) (found : Option Bool)
     (image : List ℕ) : Type 0 where
   pub lists : List Handed
   pub stands : Stands image lists
   pub agree : UnlessTaken found (AgreeAll stored lists)
-  pub landed : UnlessUntaken found (OfPending pending (λ ledger. AgreeAll ledger lists))
+  pub flight_agrees : UnlessUntaken found (OfInFlight in_flight (λ ledger. AgreeAll ledger lists))
   pub only : OutsideDoubt condition (lists ≡ lists_among (open_locks stored) lists)
 
 -- where the disk tells its bytes, so does each image that a stop may leave
 abbrev pub AllRecover :
     {D : Type 0} → (tells : Bool) → (D → List ℕ → Type 0) → Condition → Ledger → Option Ledger → Option Bool
     → BackupView D → Type 0
-AllRecover tells may_leave condition stored pending found file =
-    IsTrue tells → (image : List ℕ) → may_leave file.disk image → RecoversFrom condition stored pending found image
+AllRecover tells may_leave condition stored in_flight found file =
+    IsTrue tells → (image : List ℕ) → may_leave file.disk image → RecoversFrom condition stored in_flight found image
 
 abbrev pub LeavesLists : {K D L : Type 0} → (tells : Bool) → (D → List ℕ → Type 0) → View K D L → Type 0
 LeavesLists tells may_leave view =
-    AllRecover tells may_leave view.state.condition view.state.stored view.state.pending view.state.found view.file
+    AllRecover tells may_leave view.state.condition view.state.stored view.state.in_flight view.state.found view.file
 
 -- ---- what a call does to it
 
@@ -116,7 +116,7 @@ DoesFile faults false old new r = new ≡ old
 abbrev pub AgreeWritten : Ledger → List Handed → Written → Type 0
 AgreeWritten ledger lists (written.Answered r) = AreOpenLists ledger lists
 AgreeWritten ledger lists (written.Failed change) =
-    AgreeAll ledger lists × OfPending (option_map (after_step ledger) change) (λ l. AgreeAll l lists)
+    AgreeAll ledger lists × OfInFlight (option_map (after_step ledger) change) (λ l. AgreeAll l lists)
 AgreeWritten ledger lists written.Unfiled = AgreeAll ledger lists
 
 -- the image stands for such lists
@@ -189,7 +189,7 @@ pub record KeepsUnits (ledger now : Ledger) : Type 0 where
 abbrev pub ChangesLevels : (ledger now : Ledger) → Written → Type 0
 ChangesLevels ledger now (written.Answered r) = KeepsUnits ledger now
 ChangesLevels ledger now (written.Failed change) = KeepsUnits ledger now
-    × OfPending (option_map (after_step now) change) (KeepsUnits ledger)
+    × OfInFlight (option_map (after_step now) change) (KeepsUnits ledger)
 ChangesLevels ledger now written.Unfiled = ⊥
 
 -- ---- its end

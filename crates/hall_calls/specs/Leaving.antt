@@ -17,18 +17,18 @@ use Rattle.hall_model.specs.State.{State}
 use Rattle.hall_calls.specs.View.{View}
 
 -- rows stand for the change in flight, if there is one
-abbrev pub StandForPending : Rows → Option Ledger → Type 0
-StandForPending rows None = ⊥
-StandForPending rows (Some pending) = StandFor rows pending
+abbrev pub StandForInFlight : Rows → Option Ledger → Type 0
+StandForInFlight rows None = ⊥
+StandForInFlight rows (Some in_flight) = StandFor rows in_flight
 
 -- rows stand for what is recorded, with or without the change in flight, by what is known of it
 abbrev pub StandForKnown : Option Bool → Rows → Ledger → Option Ledger → Type 0
-StandForKnown None rows stored pending = StandFor rows stored ⊎ StandForPending rows pending
-StandForKnown (Some false) rows stored pending = StandFor rows stored
-StandForKnown (Some true) rows stored pending = StandForPending rows pending
+StandForKnown None rows stored in_flight = StandFor rows stored ⊎ StandForInFlight rows in_flight
+StandForKnown (Some false) rows stored in_flight = StandFor rows stored
+StandForKnown (Some true) rows stored in_flight = StandForInFlight rows in_flight
 
 abbrev pub StandForState : Rows → State → Type 0
-StandForState rows s = StandForKnown s.found rows s.stored s.pending
+StandForState rows s = StandForKnown s.found rows s.stored s.in_flight
 
 -- where the keeper tells its rows, each map that a stop may leave stands for the state
 abbrev pub LeavesState : {K D L : Type 0} → (K → Option Rows) → (K → Rows → Type 0) → View K D L → Type 0
@@ -36,13 +36,14 @@ LeavesState held may_leave view =
     IfSome (held view.keeper) (λ _. (left : Rows) → may_leave view.keeper left → StandForState left view.state)
 
 -- rows stand for the ledger, without the change in flight or with it
-abbrev pub StandForLanded : Rows → Ledger → Option Step → Type 0
-StandForLanded rows ledger change = StandFor rows ledger ⊎ StandForPending rows (option_map (after_step ledger) change)
+abbrev pub StandOrInFlight : Rows → Ledger → Option Step → Type 0
+StandOrInFlight rows ledger change = StandFor rows ledger
+    ⊎ StandForInFlight rows (option_map (after_step ledger) change)
 
 -- rows stand for the ledger, or where the store failed for the ledger without the change in flight or with it
 abbrev pub StandForWritten : Rows → Ledger → Written → Type 0
 StandForWritten rows ledger (Answered r) = StandFor rows ledger
-StandForWritten rows ledger (Failed change) = StandForLanded rows ledger change
+StandForWritten rows ledger (Failed change) = StandOrInFlight rows ledger change
 StandForWritten rows ledger Unfiled = StandFor rows ledger
 
 -- the same of each map that a stop may leave

@@ -1,6 +1,6 @@
 -- What a call leaves of the lock server, and of a unit that gets a mark.
-use Rattle.std.specs.Prelude.{ℕ, ◌≡◌, ◌≤◌, ◌⊎◌, Bool, false, ◌&&◌, if◌then◌else◌, List, length, nat_le, Option, Some, None}
-use Rattle.std.specs.Prelude.{IfErr, IsErrOf, IsTrue, OnOk, Result, Ok, Err}
+use Rattle.std.specs.Prelude.{ℕ, ◌≡◌, ◌≤◌, ◌⊎◌, Bool, false, ◌&&◌, if◌then◌else◌, List, length, nat_le, Option, Some}
+use Rattle.std.specs.Prelude.{None, IfErr, IsErrOf, IsTrue, OnOk, Result, Ok, Err}
 use Rattle.backup_file.specs.Backup.{IsReady, IsSame}
 use Rattle.backup_file.specs.File.{Stands}
 use Rattle.backup_file.specs.Lists.{is_known}
@@ -10,7 +10,7 @@ use Rattle.enq_base.specs.declared.owner.UnitKey.{UnitKey}
 use Rattle.enq_base.specs.declared.refusal.Refusal.{Refusal}
 use Rattle.enq_base.specs.declared.refusal.Refusal.TheVariants as refusal
 use Rattle.enq_server.specs.Faults.{HasCallCause, IsReadmission}
-use Rattle.enq_server.specs.Following.{IsLostWith, KeepsOn}
+use Rattle.enq_server.specs.Replica.{IsLostWith, KeepsOn}
 use Rattle.enq_server.specs.Recovery.{AreWith}
 use Rattle.enq_server.specs.Server.{Server, with_list}
 use Rattle.enq_server.specs.declared.fault.ServerFault.{ServerFault}
@@ -30,6 +30,7 @@ use Rattle.hall_calls.specs.Filing.{AreWaiting, lists_ended, locks_ended, stays_
 use Rattle.hall_calls.specs.OpenLists.{AgreeAll, AreOpenLists}
 use Rattle.hall_calls.specs.declared.units.Written.{Written}
 use Rattle.hall_calls.specs.declared.units.Written.TheVariants.{Answered, Failed, Unfiled}
+use Rattle.ledger_steps.specs.declared.part.Part.{Part}
 
 -- ---- the lock server
 
@@ -38,8 +39,8 @@ pub record ServesOn {D L : Type 0} (applied : L → Option (List Entry)) (faults
     (old new : Server D L) : Type 0 where
   pub limit : new.table.limit ≡ old.table.limit
   pub standing : new.stands ≡ old.stands
-  pub follower : KeepsOn applied faults refusals old.copy new.copy
-  pub lost : IsLostWith old.copy new.copy old.table new.table
+  pub replica : KeepsOn applied faults refusals old.replica new.replica
+  pub lost : IsLostWith old.replica new.replica old.table new.table
 
 -- entries stand again for their asker, and the file has them as the unit's list; or the table refuses them, memory was
 -- wanting, or the disk failed
@@ -95,7 +96,7 @@ unit_to_post full limit None = Err refusal.NoOrder
 unit_to_post full limit (Some unit) = if full then Err (refusal.StoreFull limit) else Ok unit
 
 -- the unit whose part a worker may post now, or why there is none
-abbrev pub to_post : (part : ℕ) → Ledger → List (Option UnitKey) → (limit worker : ℕ) → Result UnitKey Refusal
+abbrev pub to_post : (part : Part) → Ledger → List (Option UnitKey) → (limit worker : ℕ) → Result UnitKey Refusal
 to_post part ledger orders limit worker =
     unit_to_post (nat_le limit (length ledger.marks)) limit (order_for part ledger orders worker)
 

@@ -94,7 +94,7 @@ remade_over before (InDoubt r read) = before
 
 -- what is left of the failure since which the server was in doubt
 abbrev pub no_failure : Failure
-no_failure = record { pending = None; found = None; caller = None }
+no_failure = record { in_flight = None; found = None; caller = None }
 
 abbrev pub remade_failure : Failure → Remade → Failure
 remade_failure before (Done taken) = no_failure
@@ -113,13 +113,13 @@ remade_state s sessions orders table ledger (Done taken) =
       taken_over = false;
       attached = false;
       stored = ledger;
-      pending = None;
+      in_flight = None;
       found = None;
       failed_caller = None;
     }
 remade_state s sessions orders table ledger (Refused r) = s
 remade_state s sessions orders table ledger (InDoubt r read) =
-    record (doubted s (OfAdmin Restarts) read s.pending) { sessions = sessions }
+    record (doubted s (OfAdmin Restarts) read s.in_flight) { sessions = sessions }
 
 -- what is said of a lock server that was made anew
 abbrev pub OnRemade : Remade → Type 0 → Type 0
@@ -158,14 +158,14 @@ taken_in (Some found) = Some found.taken
 
 -- what may have been in flight, over what was stored before
 abbrev pub flight_over : Ledger → Failure → Option Ledger
-flight_over ledger failure = option_map (after_step ledger) failure.pending
+flight_over ledger failure = option_map (after_step ledger) failure.in_flight
 
 -- where the keeper tells its rows, those that a stop may leave stand for what is stored, with or without the change in
 -- flight
 abbrev pub LeavesKnown : {K : Type 0} → (K → Option Rows) → (K → Rows → Type 0) → K → Option Bool → Ledger
     → Option Ledger → Type 0
-LeavesKnown held may_leave keeper found stored pending =
-    IfSome (held keeper) (λ _. (left : Rows) → may_leave keeper left → StandForKnown found left stored pending)
+LeavesKnown held may_leave keeper found stored in_flight =
+    IfSome (held keeper) (λ _. (left : Rows) → may_leave keeper left → StandForKnown found left stored in_flight)
 
 -- what the store has, with the change in flight or without it, as it was read before if it was
 pub record IsFoundRight (before : Ledger) (failure : Failure) (found : FoundAnew) : Type 0 where

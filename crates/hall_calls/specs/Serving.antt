@@ -4,7 +4,7 @@ use Rattle.backup_file.specs.Backup.{BackupView}
 use Rattle.enq_base.specs.Causes.{Rose}
 use Rattle.enq_base.specs.declared.condition.Bad.TheVariants as bad
 use Rattle.enq_base.specs.declared.refusal.Refusal.TheVariants as refusal
-use Rattle.enq_server.specs.Following.{Following, IsLater, KeepsOn}
+use Rattle.enq_server.specs.Replica.{IsLater, KeepsOn, ReplicaView}
 use Rattle.keeper_api.specs.Keeping.{IsWithin}
 use Rattle.keeper_api.specs.Rows.{Rows}
 use Rattle.lock_entry.specs.Sound.{IsSound, first_clash}
@@ -15,7 +15,8 @@ use Rattle.hall_model.specs.declared.command.PastEntry.{PastEntry}
 use Rattle.hall_model.specs.declared.command.Reply.{Reply}
 use Rattle.hall_model.specs.declared.command.Reply.TheVariants as reply
 use Rattle.hall_model.specs.Acts.{Admits, IsAct, IsTelling}
-use Rattle.hall_model.specs.Calls.{Call, OfSession, LogsOff, Asks, Frees, FreesAll, Converts, RollsBack, call_of, fails_over, renews_replica, restarts, touches_file}
+use Rattle.hall_model.specs.Calls.{Call, OfSession, LogsOff, Asks, Frees, FreesAll, Converts, RollsBack, call_of}
+use Rattle.hall_model.specs.Calls.{fails_over, renews_replica, restarts, touches_file}
 use Rattle.hall_model.specs.Devices.{is_doubt, reaches_store}
 use Rattle.hall_calls.specs.Filing.{DoesFile, HasFileCause, KeepsFile}
 use Rattle.hall_model.specs.History.{is_unrecorded}
@@ -73,7 +74,7 @@ LeavesFile faults false touches old new r = DoesFile faults touches old new r
 
 -- what followed is lost only where the link failed or found no memory, or where the call brings another replica or none
 abbrev pub Follows : {L : Type 0} → (L → Option (List Entry)) → (faults refusals : L → ℕ) → (renews : Bool)
-    → Following L → Following L → Type 0
+    → ReplicaView L → ReplicaView L → Type 0
 Follows applied faults refusals true old new = IsLater applied faults refusals old new
 Follows applied faults refusals false old new = KeepsOn applied faults refusals old new
 
@@ -105,9 +106,9 @@ pub record Serves {K D L : Type 0} (held : K → Option Rows) (may_leave : K →
   pub store : DoesStore held may_leave faults (restarts (call_of c))
       (reaches_store old.state (call_of c)) old.keeper new.keeper r
   pub file : LeavesFile disk_faults (restarts (call_of c)) (touches_file (call_of c)) old.file new.file r
-  pub follower : Follows applied link_faults refusals (renews_replica (call_of c)) old.follower new.follower
-  pub over : IsOver (fails_over (call_of c)) new.state.locks (gives old.follower.link) r
-  pub link : HasLinkCause (link_faults old.follower.link) (link_faults new.follower.link) r
+  pub replica : Follows applied link_faults refusals (renews_replica (call_of c)) old.replica new.replica
+  pub over : IsOver (fails_over (call_of c)) new.state.locks (gives old.replica.link) r
+  pub link : HasLinkCause (link_faults old.replica.link) (link_faults new.replica.link) r
 
 -- all that a call does, served or not, and what its answer tells
 pub record IsAnswered {K D L : Type 0} (held : K → Option Rows) (may_leave : K → Rows → Type 0) (faults : K → ℕ)
@@ -123,11 +124,11 @@ pub record IsAnswered {K D L : Type 0} (held : K → Option Rows) (may_leave : K
   pub file_cause : HasFileCause (disk_faults old.file.disk) (disk_faults new.file.disk) a.reply
   pub file : restarts (call_of c) ≡ false → KeepsFile old.file new.file a.reply
   pub unfiled : touches_file (call_of c) ≡ false → new.file ≡ old.file
-  pub link : IsLater applied link_faults refusals old.follower new.follower
-  pub follower : renews_replica (call_of c) ≡ false → KeepsOn applied link_faults refusals old.follower new.follower
-  pub over : IsOver (fails_over (call_of c)) new.state.locks (gives old.follower.link) a.reply
-  pub link_cause : HasLinkCause (link_faults old.follower.link) (link_faults new.follower.link) a.reply
+  pub link : IsLater applied link_faults refusals old.replica new.replica
+  pub replica : renews_replica (call_of c) ≡ false → KeepsOn applied link_faults refusals old.replica new.replica
+  pub over : IsOver (fails_over (call_of c)) new.state.locks (gives old.replica.link) a.reply
+  pub link_cause : HasLinkCause (link_faults old.replica.link) (link_faults new.replica.link) a.reply
   pub room : is_unrecorded a.reply ≡ false → is_full (with_calls old.state past) ≡ false
   pub good_file : IsTrue tells → IsTrue (is_honest old.state) → is_unsound_file a.reply ≡ false
   pub good_store : is_some (held old.keeper) ≡ true → is_unsound_store a.reply ≡ false
-  pub good_replica : is_some (applied old.follower.link) ≡ true → is_unsound_replica a.reply ≡ false
+  pub good_replica : is_some (applied old.replica.link) ≡ true → is_unsound_replica a.reply ≡ false

@@ -46,4 +46,4 @@ pub record IsEnded {D L : Type 0} (old new : Standing D L) (calls start : ℕ) (
   pub stands : new.locks.stands ≡ is_up new.condition
   pub kept : OnAnswer w (new.locks ≡ old.locks)
   pub file : new.locks.file ≡ old.locks.file
-  pub copy : new.locks.copy ≡ old.locks.copy
+  pub replica : new.locks.replica ≡ old.locks.replica

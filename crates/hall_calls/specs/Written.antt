@@ -1,5 +1,5 @@
 -- A call that uses the store or the backup file, and what it leaves where one of them fails.
-use Rattle.std.specs.Prelude.{◌≡◌, ℕ, ◌+◌, nat_eq, List, Option, Some, None, Ok, if◌then◌else◌}
+use Rattle.std.specs.Prelude.{◌≡◌, ℕ, ◌+◌, List, Option, Some, None, Ok, if◌then◌else◌}
 use Rattle.std.specs.Option.{option_map}
 use Rattle.enq_base.specs.declared.condition.Condition.{Condition}
 use Rattle.enq_base.specs.declared.condition.Condition.TheVariants as condition
@@ -17,7 +17,6 @@ use Rattle.update_records.specs.Marks.{status_of}
 use Rattle.ledger_steps.specs.Drawn.{passed}
 use Rattle.ledger_steps.specs.declared.range.NumberRange.{NumberRange}
 use Rattle.hall_model.specs.declared.command.Command.{Command}
-use Rattle.hall_model.specs.declared.command.Command.TheVariants as command
 use Rattle.hall_model.specs.declared.command.Reply.{Reply}
 use Rattle.hall_model.specs.declared.command.Reply.TheVariants as reply
 use Rattle.hall_calls.specs.declared.units.Written.{Written}
@@ -29,18 +28,12 @@ use Rattle.hall_model.specs.Sessions.{has_one_of, owners_of, with_marks}
 use Rattle.hall_model.specs.State.{State, unhanded}
 use Rattle.hall_model.specs.declared.command.Session.{Session}
 use Rattle.hall_model.specs.Acts.{IsAct}
-
--- the call by which a worker takes an order for a part
-abbrev pub take_of : ℕ → ℕ → Command
-take_of part worker = if nat_eq part 1 then command.Take1 worker else command.Take2 worker
-
--- the call by which a worker posts a part
-abbrev pub post_of : ℕ → ℕ → Command
-post_of part worker = if nat_eq part 1 then command.Do1 worker else command.Do2 worker
+use Rattle.ledger_steps.specs.declared.part.Part.{Part}
+use Rattle.ledger_steps.specs.Parts.{is_first}
 
 -- the locks that a post leaves, of those before: with a V1 part some go, and a V2 part touches none
-abbrev pub locks_posted : (part : ℕ) → (before now : List Entry) → List Entry
-locks_posted part before now = if nat_eq part 1 then now else before
+abbrev pub locks_posted : (part : Part) → (before now : List Entry) → List Entry
+locks_posted part before now = if is_first part then now else before
 
 -- a call that uses store and file leaves this state, or where one of them fails a server in doubt
 abbrev pub IsWritten : State → Command → State → Written → Type 0
@@ -105,7 +98,7 @@ written_condition before calls Unfiled = condition.Doubt (calls + 1)
 -- the change in flight, and the session in whose call the device failed, if a session made it
 abbrev pub written_failure : Failure → Option (List ℕ) → Written → Failure
 written_failure before caller (Answered r) = before
-written_failure before caller (Failed change) = record before { pending = change; caller = caller }
+written_failure before caller (Failed change) = record before { in_flight = change; caller = caller }
 written_failure before caller Unfiled = record before { caller = caller }
 
 -- the locks that are stored with a unit whose V1 part was refused stand again

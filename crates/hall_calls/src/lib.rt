@@ -13,4 +13,4 @@ mod shown;
 mod units;
 mod writing;
 
-pub use present::{HISTORY_LIMIT, Present};
+pub use present::{HISTORY_LIMIT, Limits, Present};

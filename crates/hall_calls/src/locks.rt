@@ -1,6 +1,6 @@
 ghost use Rattle.std.specs.Prelude.{◌≡◌, fold, true};
 ghost use Rattle.std.specs.List.{AllByRecursion};
-ghost use Rattle.enq_server.specs.Following.{IsLostWith, KeepsOn};
+ghost use Rattle.enq_server.specs.Replica.{IsLostWith, KeepsOn};
 ghost use Rattle.hall_model.specs.declared.command.Command.TheVariants as command;
 ghost use Rattle.hall_calls.specs.Serving.{is_of_locks};
 ghost use Rattle.hall_model.specs.Acts.{Admits, IsAct};
@@ -40,8 +40,8 @@ pub(crate) fn lock<T: LockStore, D: Disk, L: Link>(
     ensures limit { locks.new.table.limit ≡ locks.old.table.limit }
     ensures standing { locks.new.stands ≡ locks.old.stands }
     ensures file { locks.new.file ≡ locks.old.file }
-    ensures follower { KeepsOn L.applied L.faults L.refusals locks.old.copy locks.new.copy }
-    ensures lost { IsLostWith locks.old.copy locks.new.copy locks.old.table locks.new.table }
+    ensures replica { KeepsOn L.applied L.faults L.refusals locks.old.replica locks.new.replica }
+    ensures lost { IsLostWith locks.old.replica locks.new.replica locks.old.table locks.new.table }
 {
     match command {
         Command::Logoff { session } => log_off(start, sessions, locks, session),
@@ -82,8 +82,8 @@ fn ask<T: LockStore, D: Disk, L: Link>(
     ensures limit { locks.new.table.limit ≡ locks.old.table.limit }
     ensures standing { locks.new.stands ≡ locks.old.stands }
     ensures file { locks.new.file ≡ locks.old.file }
-    ensures follower { KeepsOn L.applied L.faults L.refusals locks.old.copy locks.new.copy }
-    ensures lost { IsLostWith locks.old.copy locks.new.copy locks.old.table locks.new.table }
+    ensures replica { KeepsOn L.applied L.faults L.refusals locks.old.replica locks.new.replica }
+    ensures lost { IsLostWith locks.old.replica locks.new.replica locks.old.table locks.new.table }
 {
     let session = session_of(sessions, name)?;
     let pair = pair_of(start, session);
@@ -136,8 +136,8 @@ fn free<T: LockStore, D: Disk, L: Link>(
     ensures limit { locks.new.table.limit ≡ locks.old.table.limit }
     ensures standing { locks.new.stands ≡ locks.old.stands }
     ensures file { locks.new.file ≡ locks.old.file }
-    ensures follower { KeepsOn L.applied L.faults L.refusals locks.old.copy locks.new.copy }
-    ensures lost { IsLostWith locks.old.copy locks.new.copy locks.old.table locks.new.table }
+    ensures replica { KeepsOn L.applied L.faults L.refusals locks.old.replica locks.new.replica }
+    ensures lost { IsLostWith locks.old.replica locks.new.replica locks.old.table locks.new.table }
 {
     let session = session_of(sessions, name)?;
     free_requests(locks, &pair_of(start, session), requests);
@@ -153,8 +153,8 @@ fn free_requests<T: LockStore, D: Disk, L: Link>(
         (fold freed locks.old.table.entries (halves pair.now requests.now)) }
     ensures standing { locks.new.stands ≡ locks.old.stands }
     ensures file { locks.new.file ≡ locks.old.file }
-    ensures follower { KeepsOn L.applied L.faults L.refusals locks.old.copy locks.new.copy }
-    ensures lost { IsLostWith locks.old.copy locks.new.copy locks.old.table locks.new.table }
+    ensures replica { KeepsOn L.applied L.faults L.refusals locks.old.replica locks.new.replica }
+    ensures lost { IsLostWith locks.old.replica locks.new.replica locks.old.table locks.new.table }
 {
     for request in requests {
         free_request(locks, pair, request);
@@ -170,8 +170,8 @@ fn free_request<T: LockStore, D: Disk, L: Link>(
         (fold freed locks.old.table.entries (halves_of pair.now request.now)) }
     ensures standing { locks.new.stands ≡ locks.old.stands }
     ensures file { locks.new.file ≡ locks.old.file }
-    ensures follower { KeepsOn L.applied L.faults L.refusals locks.old.copy locks.new.copy }
-    ensures lost { IsLostWith locks.old.copy locks.new.copy locks.old.table locks.new.table }
+    ensures replica { KeepsOn L.applied L.faults L.refusals locks.old.replica locks.new.replica }
+    ensures lost { IsLostWith locks.old.replica locks.new.replica locks.old.table locks.new.table }
 {
     if request.dialogue {
         locks.free_one(&pair.dialogue, &request.asked);
@@ -195,8 +195,8 @@ fn log_off<T: LockStore, D: Disk, L: Link>(
     ensures limit { locks.new.table.limit ≡ locks.old.table.limit }
     ensures standing { locks.new.stands ≡ locks.old.stands }
     ensures file { locks.new.file ≡ locks.old.file }
-    ensures follower { KeepsOn L.applied L.faults L.refusals locks.old.copy locks.new.copy }
-    ensures lost { IsLostWith locks.old.copy locks.new.copy locks.old.table locks.new.table }
+    ensures replica { KeepsOn L.applied L.faults L.refusals locks.old.replica locks.new.replica }
+    ensures lost { IsLostWith locks.old.replica locks.new.replica locks.old.table locks.new.table }
 {
     let session = session_of(sessions, name)?;
     let own_name = session.name;
@@ -219,8 +219,8 @@ fn free_all<T: LockStore, D: Disk, L: Link>(
     ensures limit { locks.new.table.limit ≡ locks.old.table.limit }
     ensures standing { locks.new.stands ≡ locks.old.stands }
     ensures file { locks.new.file ≡ locks.old.file }
-    ensures follower { KeepsOn L.applied L.faults L.refusals locks.old.copy locks.new.copy }
-    ensures lost { IsLostWith locks.old.copy locks.new.copy locks.old.table locks.new.table }
+    ensures replica { KeepsOn L.applied L.faults L.refusals locks.old.replica locks.new.replica }
+    ensures lost { IsLostWith locks.old.replica locks.new.replica locks.old.table locks.new.table }
 {
     let session = session_of(sessions, name)?;
     free_pair(locks, &pair_of(start, session));
@@ -233,8 +233,8 @@ fn free_pair<T: LockStore, D: Disk, L: Link>(locks: &mut EnqServer<T, D, L>, ask
         (freed_owner (freed_owner locks.old.table.entries asker.now.dialogue) asker.now.update) }
     ensures standing { locks.new.stands ≡ locks.old.stands }
     ensures file { locks.new.file ≡ locks.old.file }
-    ensures follower { KeepsOn L.applied L.faults L.refusals locks.old.copy locks.new.copy }
-    ensures lost { IsLostWith locks.old.copy locks.new.copy locks.old.table locks.new.table }
+    ensures replica { KeepsOn L.applied L.faults L.refusals locks.old.replica locks.new.replica }
+    ensures lost { IsLostWith locks.old.replica locks.new.replica locks.old.table locks.new.table }
 {
     locks.free_owner(&asker.dialogue);
     locks.free_owner(&asker.update);
@@ -257,8 +257,8 @@ fn convert<T: LockStore, D: Disk, L: Link>(
     ensures limit { locks.new.table.limit ≡ locks.old.table.limit }
     ensures standing { locks.new.stands ≡ locks.old.stands }
     ensures file { locks.new.file ≡ locks.old.file }
-    ensures follower { KeepsOn L.applied L.faults L.refusals locks.old.copy locks.new.copy }
-    ensures lost { IsLostWith locks.old.copy locks.new.copy locks.old.table locks.new.table }
+    ensures replica { KeepsOn L.applied L.faults L.refusals locks.old.replica locks.new.replica }
+    ensures lost { IsLostWith locks.old.replica locks.new.replica locks.old.table locks.new.table }
 {
     let session = session_of(sessions, name)?;
     let pair = pair_of(start, session);
@@ -284,8 +284,8 @@ fn roll_back<T: LockStore, D: Disk, L: Link>(
     ensures limit { locks.new.table.limit ≡ locks.old.table.limit }
     ensures standing { locks.new.stands ≡ locks.old.stands }
     ensures file { locks.new.file ≡ locks.old.file }
-    ensures follower { KeepsOn L.applied L.faults L.refusals locks.old.copy locks.new.copy }
-    ensures lost { IsLostWith locks.old.copy locks.new.copy locks.old.table locks.new.table }
+    ensures replica { KeepsOn L.applied L.faults L.refusals locks.old.replica locks.new.replica }
+    ensures lost { IsLostWith locks.old.replica locks.new.replica locks.old.table locks.new.table }
 {
     let session = session_of(sessions, name)?;
     let own_name = session.name;

@@ -36,6 +36,14 @@ use update_records::StoredInterval;
 /// The most numbers that a session may have drawn and not recorded.
 pub(crate) const DRAWS_LIMIT: usize = 64;
 
+/// A session's call for numbers of an interval, which has this object and these two digits.
+#[derive(Drop)]
+pub(crate) struct NumberCall<'a> {
+    pub(crate) session: &'a Name,
+    pub(crate) object: &'a Name,
+    pub(crate) nr: [u8; 2],
+}
+
 /// A number that a session may draw, the level that reserves it, and what the session has drawn then.
 #[derive(Drop)]
 struct NextDraw {
@@ -52,27 +60,25 @@ pub(crate) fn draw<K: Keeper>(
     sessions: &mut Sessions,
     ranges: &mut Ranges,
     books: &mut Books<K>,
-    name: &Name,
-    object: &Name,
-    nr: [u8; 2],
+    call: &NumberCall<'_>,
 ) -> Written
     requires usable { IsUsable K.held K.is_open books.old }
     requires started { 1 ≤ books.old.ledger.start }
     requires drawn { AreDrawnRight ranges.old books.old.ledger.levels (draws_in sessions.old)
         (numbers_of books.old.ledger.units books.old.ledger.marks) }
     ensures act { (s : State) → s.sessions ≡ sessions.old → s.ranges ≡ ranges.old → s.stored ≡ books.old.ledger
-        → Admits s (command.Number name.now object.now nr)
-        → IsWritten s (command.Number name.now object.now nr)
+        → Admits s (command.Number call.now.session.now call.now.object.now call.now.nr)
+        → IsWritten s (command.Number call.now.session.now call.now.object.now call.now.nr)
         (record s { sessions = sessions.new; ranges = ranges.new; stored = books.new.ledger })
         result }
     ensures sessions { OnFailure result (sessions.new ≡ sessions.old) }
     ensures ranges { OnFailure result (ranges.new ≡ ranges.old) }
     ensures levels { ChangesLevels books.old.ledger books.new.ledger result }
     ensures keeper { (s : State) → s.ranges ≡ ranges.old → s.stored ≡ books.old.ledger
-        → raises_level s (Draws object.now nr) ≡ false → books.new.keeper ≡ books.old.keeper }
+        → raises_level s (Draws call.now.object.now call.now.nr) ≡ false → books.new.keeper ≡ books.old.keeper }
     ensures store { EndsAs K.held K.is_open K.may_leave K.faults books.old books.new result }
 {
-    let draw = match to_draw(alloc, sessions, ranges, books, name, object, nr) {
+    let draw = match to_draw(alloc, sessions, ranges, books, call) {
         Ok(draw) => draw,
         Err(refusal) => return Written::Answered(Reply::Refused(refusal)),
     };
@@ -80,9 +86,9 @@ pub(crate) fn draw<K: Keeper>(
         if let Err(failed) = raise(alloc, books, &draw.interval, draw.level) {
             return failed;
         }
-        ranges.hand_out(object, nr);
+        ranges.hand_out(call.object, call.nr);
     }
-    sessions.set_draws(name, draw.draws);
+    sessions.set_draws(call.session, draw.draws);
     Written::Answered(Reply::Number {
         number: draw.number,
         code: code(&draw.interval, draw.number),
@@ -96,9 +102,7 @@ pub(crate) fn reserve<K: Keeper>(
     sessions: &Sessions,
     ranges: &Ranges,
     books: &mut Books<K>,
-    name: &Name,
-    object: &Name,
-    nr: [u8; 2],
+    call: &NumberCall<'_>,
     upto: u64,
 ) -> Written
     requires usable { IsUsable K.held K.is_open books.old }
@@ -106,14 +110,15 @@ pub(crate) fn reserve<K: Keeper>(
     requires drawn { AreDrawnRight ranges.now books.old.ledger.levels (draws_in sessions.now)
         (numbers_of books.old.ledger.units books.old.ledger.marks) }
     ensures act { (s : State) → s.sessions ≡ sessions.now → s.ranges ≡ ranges.now → s.stored ≡ books.old.ledger
-        → Admits s (command.Reserve name.now object.now nr upto)
-        → IsWritten s (command.Reserve name.now object.now nr upto) (record s { stored = books.new.ledger }) result }
+        → Admits s (command.Reserve call.now.session.now call.now.object.now call.now.nr upto)
+        → IsWritten s (command.Reserve call.now.session.now call.now.object.now call.now.nr upto)
+        (record s { stored = books.new.ledger }) result }
     ensures levels { ChangesLevels books.old.ledger books.new.ledger result }
     ensures keeper { (s : State) → s.ranges ≡ ranges.now → s.stored ≡ books.old.ledger
-        → raises_level s (Reserves object.now nr upto) ≡ false → books.new.keeper ≡ books.old.keeper }
+        → raises_level s (Reserves call.now.object.now call.now.nr upto) ≡ false → books.new.keeper ≡ books.old.keeper }
     ensures store { EndsAs K.held K.is_open K.may_leave K.faults books.old books.new result }
 {
-    let (interval, level) = match to_reserve(sessions, ranges, books, name, object, nr, upto) {
+    let (interval, level) = match to_reserve(sessions, ranges, books, call, upto) {
         Ok(found) => found,
         Err(refusal) => return Written::Answered(Reply::Refused(refusal)),
     };
@@ -174,30 +179,29 @@ fn to_draw<K: Keeper>(
     sessions: &Sessions,
     ranges: &Ranges,
     books: &Books<K>,
-    name: &Name,
-    object: &Name,
-    nr: [u8; 2],
+    call: &NumberCall<'_>,
 ) -> Result<NextDraw, Refusal>
     requires drawn { AreDrawnRight ranges.now books.now.ledger.levels (draws_in sessions.now)
         (numbers_of books.now.ledger.units books.now.ledger.marks) }
     ensures draw { IfOk result
-        (λ d. IsNextDraw sessions.now ranges.now books.now.ledger.levels name.now object.now nr d.interval d.number
+        (λ d. IsNextDraw sessions.now ranges.now books.now.ledger.levels call.now.session.now call.now.object.now
+        call.now.nr d.interval d.number
         d.level d.draws.items) }
     ensures refused { IfErr result
         (λ r. (s : State) → s.sessions ≡ sessions.now → s.ranges ≡ ranges.now → s.stored ≡ books.now.ledger
-        → Admits s (command.Number name.now object.now nr)
-        → IsAct s (command.Number name.now object.now nr) s (Reply.Refused r)) }
+        → Admits s (command.Number call.now.session.now call.now.object.now call.now.nr)
+        → IsAct s (command.Number call.now.session.now call.now.object.now call.now.nr) s (Reply.Refused r)) }
     ensures quiet { IfErr result (λ r. (n : ℕ) → HasStoreCause n n (Reply.Refused r)) }
 {
-    let session = session_of(sessions, name)?;
-    let Some(range) = ranges.find(object, nr) else {
+    let session = session_of(sessions, call.session)?;
+    let Some(range) = ranges.find(call.object, call.nr) else {
         return Err(Refusal::IntervalNotFound);
     };
     if session.draws.as_slice().len() >= DRAWS_LIMIT {
         return Err(Refusal::UnitTooLarge);
     }
     let interval = present(range, books);
-    if let Some(holder) = sessions.other_holder(name, &interval) {
+    if let Some(holder) = sessions.other_holder(call.session, &interval) {
         return Err(Refusal::IntervalBusy(holder));
     }
     let number = next_number(range, &interval, session);
@@ -226,23 +230,22 @@ fn to_reserve<K: Keeper>(
     sessions: &Sessions,
     ranges: &Ranges,
     books: &Books<K>,
-    name: &Name,
-    object: &Name,
-    nr: [u8; 2],
+    call: &NumberCall<'_>,
     upto: u64,
 ) -> Result<(Interval, u64), Refusal>
     requires drawn { AreDrawnRight ranges.now books.now.ledger.levels (draws_in sessions.now)
         (numbers_of books.now.ledger.units books.now.ledger.marks) }
     ensures interval { IfOk result
-        (λ f. IsNextReserve sessions.now ranges.now books.now.ledger.levels name.now object.now nr upto f.0 f.1) }
+        (λ f. IsNextReserve sessions.now ranges.now books.now.ledger.levels call.now.session.now call.now.object.now
+        call.now.nr upto f.0 f.1) }
     ensures refused { IfErr result
         (λ r. (s : State) → s.sessions ≡ sessions.now → s.ranges ≡ ranges.now → s.stored ≡ books.now.ledger
-        → Admits s (command.Reserve name.now object.now nr upto)
-        → IsAct s (command.Reserve name.now object.now nr upto) s (Reply.Refused r)) }
+        → Admits s (command.Reserve call.now.session.now call.now.object.now call.now.nr upto)
+        → IsAct s (command.Reserve call.now.session.now call.now.object.now call.now.nr upto) s (Reply.Refused r)) }
     ensures quiet { IfErr result (λ r. (n : ℕ) → HasStoreCause n n (Reply.Refused r)) }
 {
-    session_of(sessions, name)?;
-    let Some(range) = ranges.find(object, nr) else {
+    session_of(sessions, call.session)?;
+    let Some(range) = ranges.find(call.object, call.nr) else {
         return Err(Refusal::IntervalNotFound);
     };
     let interval = present(range, books);

@@ -1,15 +1,17 @@
-ghost use Rattle.std.specs.Prelude.{◌≡◌, ◌⊎◌, ◌<◌, None, IfSome, length};
+ghost use Rattle.std.specs.Prelude.{◌≡◌, ◌<◌, None, IfSome, length};
 ghost use Rattle.hall_model.specs.declared.command.Command.TheVariants as command;
 ghost use Rattle.hall_model.specs.Acts.{Admits, IsAct};
 ghost use Rattle.hall_model.specs.History.{judged};
 ghost use Rattle.hall_model.specs.Orders as claims;
 ghost use Rattle.hall_model.specs.State.{State};
 ghost use Rattle.hall_model.specs.Step.{take};
-ghost use Rattle.ledger_steps.specs.Steps.{waiting_for};
+ghost use Rattle.ledger_steps.specs.Steps.{at_place, waiting_for};
+ghost use Rattle.update_records.specs.Marks.{has_status};
 
 use enq_base::{Refusal, Status, UnitKey};
 use hall_model::Reply;
 use keeper_api::Keeper;
+use ledger_steps::Part;
 use posting::Books;
 
 /// The unit that a worker has an order for.
@@ -27,7 +29,7 @@ pub(crate) fn order_for<K: Keeper>(
     orders: &[Option<UnitKey>],
     books: &Books<K>,
     worker: u8,
-    part: u8,
+    part: Part,
 ) -> Option<UnitKey>
     ensures { result ≡ claims.order_for part books.now.ledger orders.now worker }
 {
@@ -39,15 +41,27 @@ pub(crate) fn order_for<K: Keeper>(
     }
 }
 
-/// Whether a unit waits for part 1, V1, or for part 2, V2.
-fn waits_for<K: Keeper>(books: &Books<K>, unit: &UnitKey, part: u8) -> bool
+/// Whether a unit waits for this part.
+fn waits_for<K: Keeper>(books: &Books<K>, unit: &UnitKey, part: Part) -> bool
     ensures { result ≡ claims.waits_for part books.now.ledger unit.now }
 {
-    match books.status(unit) {
-        Some(Status::Open) => part == 1,
-        Some(Status::Posted) => part != 1,
-        _ => false,
+    let status = books.status(unit);
+    match part {
+        Part::V1 => is_open(status),
+        Part::V2 => is_posted(status),
     }
+}
+
+fn is_open(status: Option<Status>) -> bool
+    ensures { result ≡ has_status Status.Open status }
+{
+    matches!(status, Some(Status::Open))
+}
+
+fn is_posted(status: Option<Status>) -> bool
+    ensures { result ≡ has_status Status.Posted status }
+{
+    matches!(status, Some(Status::Posted))
 }
 
 /// The worker that has an order for the unit.
@@ -85,17 +99,30 @@ fn is_for(order: &Option<UnitKey>, unit: &UnitKey) -> bool
     }
 }
 
+/// How many units wait for a part.
+pub(crate) fn waiting<K: Keeper>(books: &Books<K>, part: Part) -> u32
+    ensures { result ≡ length (waiting_for part books.now.ledger) }
+{
+    books.waiting(part.number())
+}
+
+/// The unit at a place of those that wait for a part, counted from 1.
+fn waiting_at<K: Keeper>(books: &Books<K>, part: Part, place: u32) -> Option<UnitKey>
+    ensures { result ≡ at_place place (waiting_for part books.now.ledger) }
+{
+    books.waiting_at(part.number(), place)
+}
+
 /// The oldest unit of those that wait for a part that no worker has an order for.
 fn first_unclaimed<K: Keeper>(
     orders: &[Option<UnitKey>],
     books: &Books<K>,
-    part: u8,
+    part: Part,
 ) -> Option<UnitKey>
-    requires { (part ≡ 1) ⊎ (part ≡ 2) }
     ensures { result ≡ claims.first_unclaimed orders.now (waiting_for part books.now.ledger) }
 {
-    for place in 0..books.waiting(part) {
-        match books.waiting_at(part, place + 1) {
+    for place in 0..waiting(books, part) {
+        match waiting_at(books, part, place + 1) {
             Some(unit) => {
                 if !is_claimed(orders, &unit) {
                     return Some(unit);
@@ -112,10 +139,9 @@ pub(crate) fn take<K: Keeper>(
     orders: &mut Vec<Option<UnitKey>>,
     books: &Books<K>,
     worker: u8,
-    part: u8,
+    part: Part,
 ) -> Reply
-    requires places { length orders.old.items ≡ 256 }
-    requires part { (part ≡ 1) ⊎ (part ≡ 2) }
+    requires { length orders.old.items ≡ 256 }
     ensures verdict { (s : State) → s.orders ≡ orders.old.items → s.stored ≡ books.now.ledger
         → judged s (take part s worker)
         ≡ record { state = record s { orders = orders.new.items }; reply = result } }

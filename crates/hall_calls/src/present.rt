@@ -1,18 +1,18 @@
 ghost use Rattle.hall_calls.specs.Remaking.{over_refusal};
-ghost use Rattle.std.specs.Prelude.{◌≡◌, ◌≢◌, ◌⊎◌, ◌&&◌, ℕ, ◌+◌, List, [], if◌then◌else◌, true, false, length, replicate, Option, None, IfOk, IfSome, is_some, IsTrue};
+ghost use Rattle.std.specs.Prelude.{◌≡◌, ◌≢◌, ◌&&◌, ℕ, ◌+◌, List, [], if◌then◌else◌, true, false, length, replicate, Option, None, IfOk, IfSome, is_some, IsTrue};
 ghost use Rattle.std.specs.List.{All};
-ghost use Rattle.enq_server.specs.Following.{IsLater, KeepsOn, told_list};
+ghost use Rattle.enq_server.specs.Replica.{IsLater, KeepsOn, told_list};
 ghost use Rattle.enq_server.specs.Server.{recovered};
 ghost use Rattle.ledger_steps.specs.Views.{TellsRefusal, open_locks};
 ghost use Rattle.hall_model.specs.declared.command.Command.TheVariants as command;
 ghost use Rattle.hall_model.specs.Acts.{IsTelling};
-ghost use Rattle.hall_calls.specs.Written.{OnAnswer, post_of, take_of, written_condition, written_failure, written_reply, written_sessions};
+ghost use Rattle.hall_calls.specs.Written.{OnAnswer, written_condition, written_failure, written_reply, written_sessions};
 ghost use Rattle.hall_model.specs.Kept.{IsDrawn, IsKept};
 ghost use Rattle.ledger_steps.specs.Levels.{first_ranges, intervals_of};
 ghost use Rattle.hall_calls.specs.Filing.{HasFileCause, HasOpenLists, KeepsFile, LeavesLists};
 ghost use Rattle.hall_calls.specs.Leaving.{HasStoreCause, KeepsStore, LeavesState};
 ghost use Rattle.keeper_api.specs.Keeping.{IsWithin};
-ghost use Rattle.hall_model.specs.Calls.{call_of, fails_over, renews_replica, restarts, touches_file};
+ghost use Rattle.hall_model.specs.Calls.{call_of, fails_over, post_of, renews_replica, restarts, take_of, touches_file};
 ghost use Rattle.hall_model.specs.Devices.{reaches_store};
 ghost use Rattle.hall_calls.specs.Serving.{HasLinkCause, IsAnswered, IsDue, IsOver, Serves, is_of_locks, with_calls};
 ghost use Rattle.hall_calls.specs.Standing.{IsEnded};
@@ -27,18 +27,19 @@ ghost use Rattle.posting.specs.BooksView.{IsUsable};
 
 use crate::barring::{caller_refusal, down_refusal, server_refusal};
 use crate::locks::lock;
-use crate::numbers::{draw, reserve};
-use crate::orders::{drop_order, take};
+use crate::numbers::{NumberCall, draw, reserve};
+use crate::orders::{drop_order, take, waiting};
 use crate::remaking::{Basis, remake, settled};
 use crate::sessions::{Sessions, log_on};
 use crate::shown::shown_ranges;
-use crate::units::{Failure, Written, cancel, commit, post, read, resubmit};
+use crate::units::{CommitCall, Failure, PostCall, Written, cancel, commit, post, read, resubmit};
 use bk_disk::Disk;
 use enq_base::{Bad, Condition, Key, Name, NoMemory, Num, Parts, Refusal, UnitKey};
 use enq_server::{EnqServer, OverFault};
 use hall_model::{After, Answer, Command, PastEntry, Reply};
 use keeper_api::Keeper;
 use ledger_laws::views_tell_refusals;
+use ledger_steps::Part;
 use lock_entry::{Entry, LockStore};
 use number_ranges::Range;
 use posting::Books;
@@ -50,6 +51,13 @@ use update_records::UnitView;
 
 /// How many calls a history keeps.
 pub const HISTORY_LIMIT: usize = 262_144;
+
+/// How many locks and how many marks there may be.
+#[derive(Clone, Copy)]
+pub struct Limits {
+    pub max_locks: u32,
+    pub max_marks: u32,
+}
 
 /// What is present: all that calls change, without what is past. `Hall` has both, the present and the history of calls
 /// that led to it. It is seen as a state without a history, and the devices.
@@ -81,18 +89,18 @@ impl<T: LockStore, K: Keeper, D: Disk, L: Link> Model for Present<T, K, D, L> {
     ghost coded = { Prim.hlevel (codes, levels_code, K.code, D.code, L.code) };
 
     ghost use Rattle.std.specs.Prelude.{[], is_some};
-    ghost use Rattle.enq_server.specs.Following.{told_list};
+    ghost use Rattle.enq_server.specs.Replica.{told_list};
     ghost use Rattle.hall_calls.specs.Remaking.{flight_over};
     ghost use Rattle.hall_calls.specs.Standing.{IsPresent};
 
     ghost view = { λ h. record {
-      state = state_of (is_some (K.held h.books.keeper)) (is_some (L.applied h.locks.copy.link)) h.locks.copy.attached
-          h.taken_over h.condition h.sessions h.next_session h.orders.items h.locks.table
-          (told_list L.applied h.locks.copy) h.max_locks h.max_marks h.ranges h.books.ledger
+      state = state_of (is_some (K.held h.books.keeper)) (is_some (L.applied h.locks.replica.link))
+          h.locks.replica.attached h.taken_over h.condition h.sessions h.next_session h.orders.items h.locks.table
+          (told_list L.applied h.locks.replica) h.max_locks h.max_marks h.ranges h.books.ledger
           (flight_over h.books.ledger h.failure) h.failure.found h.failure.caller [];
       keeper = h.books.keeper;
       file = h.locks.file;
-      follower = h.locks.copy;
+      replica = h.locks.replica;
     } };
 
     ghost invariant = { λ h. IsPresent K.held K.is_open K.may_leave D.tells D.reads D.may_leave h.condition h.books
@@ -114,22 +122,22 @@ impl<T: LockStore, K: Keeper, D: Disk, L: Link> Present<T, K, D, L> {
         locks: EnqServer<T, D, L>,
         orders: Vec<Option<UnitKey>>,
         ranges: Ranges,
-        max_locks: u32,
-        max_marks: u32,
+        limits: Limits,
         books: Books<K>,
     ) -> Present<T, K, D, L>
         requires usable { IsUsable K.held K.is_open books }
         requires stands { locks.stands ≡ true }
-        requires locks { locks.table ≡ recovered max_locks (open_locks books.ledger) }
+        requires locks { locks.table ≡ recovered limits.max_locks (open_locks books.ledger) }
         requires filed { HasOpenLists D.tells D.reads D.may_leave books.ledger locks.file }
-        requires detached { locks.copy.attached ≡ false }
+        requires detached { locks.replica.attached ≡ false }
         requires orders { orders.items ≡ replicate 256 None }
         requires levels { ranges ≡ first_ranges books.ledger.levels (intervals_of ranges) }
-        ensures state { result.state ≡ opened max_locks max_marks (intervals_of ranges) (is_some (K.held books.keeper))
-            (is_some (L.applied locks.copy.link)) books.ledger }
+        ensures state { result.state ≡ opened limits.max_locks limits.max_marks (intervals_of ranges)
+            (is_some (K.held books.keeper))
+            (is_some (L.applied locks.replica.link)) books.ledger }
         ensures keeper { result.keeper ≡ books.keeper }
         ensures file { result.file ≡ locks.file }
-        ensures follower { result.follower ≡ locks.copy }
+        ensures replica { result.replica ≡ locks.replica }
         ensures left { LeavesState K.held K.may_leave result }
         ensures lists { LeavesLists D.tells D.may_leave result }
     {
@@ -140,8 +148,8 @@ impl<T: LockStore, K: Keeper, D: Disk, L: Link> Present<T, K, D, L> {
             next_session: 1,
             orders,
             locks,
-            max_locks,
-            max_marks,
+            max_locks: limits.max_locks,
+            max_marks: limits.max_marks,
             ranges,
             books,
             failure: Failure::none(),
@@ -158,7 +166,8 @@ impl<T: LockStore, K: Keeper, D: Disk, L: Link> Present<T, K, D, L> {
     /// Whether a replica follows the table, also where the lock server was ended. A doubt detaches it.
     pub fn attached(&self) -> bool
         ensures flag { result ≡ self.now.state.attached }
-        ensures copy { IsTrue result → IfSome (L.applied self.now.follower.link) (λ list. list ≡ self.now.state.locks) }
+        ensures replica { IsTrue result
+            → IfSome (L.applied self.now.replica.link) (λ list. list ≡ self.now.state.locks) }
     {
         match self.condition {
             Condition::Up | Condition::NoServer => self.locks.attached(),
@@ -228,12 +237,11 @@ impl<T: LockStore, K: Keeper, D: Disk, L: Link> Present<T, K, D, L> {
     }
 
     /// How many units wait for a part: none where the server is in doubt.
-    pub fn waiting(&self, part: u8) -> u32
-        requires { (part ≡ 1) ⊎ (part ≡ 2) }
+    pub fn waiting(&self, part: Part) -> u32
         ensures { result ≡ waiting_shown part self.now.state }
     {
         match self.condition {
-            Condition::Up | Condition::NoServer => self.books.waiting(part),
+            Condition::Up | Condition::NoServer => waiting(&self.books, part),
             Condition::Doubt(_) => 0,
         }
     }
@@ -263,7 +271,7 @@ impl<T: LockStore, K: Keeper, D: Disk, L: Link> Present<T, K, D, L> {
     pub fn into_devices(self) -> (K, D, L)
         ensures keeper { result.0 ≡ self.keeper }
         ensures disk { result.1 ≡ self.file.disk }
-        ensures link { result.2 ≡ self.follower.link }
+        ensures link { result.2 ≡ self.replica.link }
     {
         let Present {
             locks,
@@ -281,8 +289,8 @@ impl<T: LockStore, K: Keeper, D: Disk, L: Link> Present<T, K, D, L> {
     pub fn read_invariant(&self)
         ensures left { LeavesState K.held K.may_leave self.now }
         ensures lists { LeavesLists D.tells D.may_leave self.now }
-        ensures link { self.now.state.link_told ≡ is_some (L.applied self.now.follower.link) }
-        ensures attached { self.now.state.attached ≡ attached_in self.now.state.condition self.now.follower.attached }
+        ensures link { self.now.state.link_told ≡ is_some (L.applied self.now.replica.link) }
+        ensures attached { self.now.state.attached ≡ attached_in self.now.state.condition self.now.replica.attached }
     {
         let _ = &self.condition;
     }
@@ -327,17 +335,17 @@ impl<T: LockStore, K: Keeper, D: Disk, L: Link> Present<T, K, D, L> {
         ensures file_cause { HasFileCause (D.faults self.old.file.disk) (D.faults self.new.file.disk) result.reply }
         ensures file { restarts (call_of command.now) ≡ false → KeepsFile self.old.file self.new.file result.reply }
         ensures unfiled { touches_file (call_of command.now) ≡ false → self.new.file ≡ self.old.file }
-        ensures link { IsLater L.applied L.faults L.refusals self.old.follower self.new.follower }
-        ensures follower { renews_replica (call_of command.now) ≡ false
-            → KeepsOn L.applied L.faults L.refusals self.old.follower self.new.follower }
-        ensures over { IsOver (fails_over (call_of command.now)) self.new.state.locks (L.gives self.old.follower.link)
+        ensures link { IsLater L.applied L.faults L.refusals self.old.replica self.new.replica }
+        ensures replica { renews_replica (call_of command.now) ≡ false
+            → KeepsOn L.applied L.faults L.refusals self.old.replica self.new.replica }
+        ensures over { IsOver (fails_over (call_of command.now)) self.new.state.locks (L.gives self.old.replica.link)
             result.reply }
-        ensures link_cause { HasLinkCause (L.faults self.old.follower.link) (L.faults self.new.follower.link)
+        ensures link_cause { HasLinkCause (L.faults self.old.replica.link) (L.faults self.new.replica.link)
             result.reply }
         ensures room { is_unrecorded result.reply ≡ false → is_full (with_calls self.old.state past.now.items) ≡ false }
         ensures good_file { IsTrue D.tells → IsTrue (is_honest self.old.state) → is_unsound_file result.reply ≡ false }
         ensures good_store { is_some (K.held self.old.keeper) ≡ true → is_unsound_store result.reply ≡ false }
-        ensures good_replica { is_some (L.applied self.old.follower.link) ≡ true
+        ensures good_replica { is_some (L.applied self.old.replica.link) ≡ true
             → is_unsound_replica result.reply ≡ false }
     {
         self.answer(alloc, past, command)
@@ -416,10 +424,10 @@ impl<T: LockStore, K: Keeper, D: Disk, L: Link> Present<T, K, D, L> {
                 parts,
                 stock,
             } => self.commit(alloc, past, session, parts, stock.as_slice()),
-            Command::Take1 { worker } => self.take(past, *worker, 1),
-            Command::Do1 { worker } => self.post(alloc, past, *worker, 1),
-            Command::Take2 { worker } => self.take(past, *worker, 2),
-            Command::Do2 { worker } => self.post(alloc, past, *worker, 2),
+            Command::Take1 { worker } => self.take(past, *worker, Part::V1),
+            Command::Do1 { worker } => self.post(alloc, past, *worker, Part::V1),
+            Command::Take2 { worker } => self.take(past, *worker, Part::V2),
+            Command::Do2 { worker } => self.post(alloc, past, *worker, Part::V2),
             Command::DropOrder { worker } => self.drop_order(past, *worker),
             Command::Cancel { unit } => self.cancel(alloc, past, *unit),
             Command::Resubmit { unit } => self.resubmit(alloc, past, *unit),
@@ -479,12 +487,12 @@ impl<T: LockStore, K: Keeper, D: Disk, L: Link> Present<T, K, D, L> {
     }
 
     /// Draws a number of an interval.
-    fn draw(
+    fn draw<'a>(
         &mut self,
         alloc: Global,
         past: &Vec<PastEntry>,
-        session: &Name,
-        object: &Name,
+        session: &'a Name,
+        object: &'a Name,
         nr: [u8; 2],
     ) -> Reply
         requires { IsDue self.old.state past.now.items (command.Number session.now object.now nr) }
@@ -492,14 +500,17 @@ impl<T: LockStore, K: Keeper, D: Disk, L: Link> Present<T, K, D, L> {
             past.now.items (command.Number session.now object.now nr) result }
     {
         let call = begun(&self.books, past, Some(*session));
+        let asked = NumberCall {
+            session,
+            object,
+            nr,
+        };
         let written = draw(
             alloc,
             &mut self.sessions,
             &mut self.ranges,
             &mut self.books,
-            session,
-            object,
-            nr,
+            &asked,
         );
         ended(
             &mut self.condition,
@@ -512,12 +523,12 @@ impl<T: LockStore, K: Keeper, D: Disk, L: Link> Present<T, K, D, L> {
     }
 
     /// Reserves numbers of a buffered interval.
-    fn reserve(
+    fn reserve<'a>(
         &mut self,
         alloc: Global,
         past: &Vec<PastEntry>,
-        session: &Name,
-        object: &Name,
+        session: &'a Name,
+        object: &'a Name,
         nr: [u8; 2],
         upto: u64,
     ) -> Reply
@@ -526,14 +537,17 @@ impl<T: LockStore, K: Keeper, D: Disk, L: Link> Present<T, K, D, L> {
             past.now.items (command.Reserve session.now object.now nr upto) result }
     {
         let call = begun(&self.books, past, Some(*session));
+        let asked = NumberCall {
+            session,
+            object,
+            nr,
+        };
         let written = reserve(
             alloc,
             &self.sessions,
             &self.ranges,
             &mut self.books,
-            session,
-            object,
-            nr,
+            &asked,
             upto,
         );
         ended(
@@ -546,13 +560,13 @@ impl<T: LockStore, K: Keeper, D: Disk, L: Link> Present<T, K, D, L> {
         )
     }
 
-    fn commit(
+    fn commit<'a>(
         &mut self,
         alloc: Global,
         past: &Vec<PastEntry>,
-        session: &Name,
-        parts: &Parts,
-        stock: &[Num],
+        session: &'a Name,
+        parts: &'a Parts,
+        stock: &'a [Num],
     ) -> Reply
         requires due { IsDue self.old.state past.now.items (command.Commit session.now parts.now stock.now) }
         requires stock { IsStockIn self.old.state stock.now }
@@ -560,16 +574,19 @@ impl<T: LockStore, K: Keeper, D: Disk, L: Link> Present<T, K, D, L> {
             past.now.items (command.Commit session.now parts.now stock.now) result }
     {
         let call = begun(&self.books, past, Some(*session));
+        let asked = CommitCall {
+            session,
+            parts,
+            stock,
+            max_marks: self.max_marks,
+        };
         let written = commit(
             alloc,
             &mut self.sessions,
             &mut self.ranges,
             &mut self.locks,
             &mut self.books,
-            session,
-            parts,
-            stock,
-            self.max_marks,
+            &asked,
         );
         ended(
             &mut self.condition,
@@ -581,32 +598,33 @@ impl<T: LockStore, K: Keeper, D: Disk, L: Link> Present<T, K, D, L> {
         )
     }
 
-    /// Gives a worker an order for a part, 1 for V1 and 2 for V2.
-    fn take(&mut self, past: &Vec<PastEntry>, worker: u8, part: u8) -> Reply
-        requires due { IsDue self.old.state past.now.items (take_of part worker) }
-        requires part { (part ≡ 1) ⊎ (part ≡ 2) }
+    /// Gives a worker an order for a part.
+    fn take(&mut self, past: &Vec<PastEntry>, worker: u8, part: Part) -> Reply
+        requires { IsDue self.old.state past.now.items (take_of part worker) }
         ensures { Serves K.held K.may_leave K.faults D.faults L.gives L.applied L.faults L.refusals self.old self.new
             past.now.items (take_of part worker) result }
     {
         take(&mut self.orders, &self.books, worker, part)
     }
 
-    /// Posts a part, 1 for V1 and 2 for V2.
-    fn post(&mut self, alloc: Global, past: &Vec<PastEntry>, worker: u8, part: u8) -> Reply
-        requires due { IsDue self.old.state past.now.items (post_of part worker) }
-        requires part { (part ≡ 1) ⊎ (part ≡ 2) }
+    /// Posts the part that a worker has an order for.
+    fn post(&mut self, alloc: Global, past: &Vec<PastEntry>, worker: u8, part: Part) -> Reply
+        requires { IsDue self.old.state past.now.items (post_of part worker) }
         ensures { Serves K.held K.may_leave K.faults D.faults L.gives L.applied L.faults L.refusals self.old self.new
             past.now.items (post_of part worker) result }
     {
         let call = begun(&self.books, past, None);
+        let asked = PostCall {
+            worker,
+            part,
+            max_marks: self.max_marks,
+        };
         let written = post(
             alloc,
             &mut self.orders,
             &mut self.locks,
             &mut self.books,
-            worker,
-            part,
-            self.max_marks,
+            asked,
         );
         ended(
             &mut self.condition,
@@ -812,7 +830,7 @@ fn bring_down<T: LockStore, D: Disk, L: Link>(
     ensures stands { (calls : ℕ) → locks.new.stands ≡ is_up (written_condition condition calls written.now) }
     ensures kept { OnAnswer written.now (locks.new ≡ locks.old) }
     ensures file { locks.new.file ≡ locks.old.file }
-    ensures copy { locks.new.copy ≡ locks.old.copy }
+    ensures replica { locks.new.replica ≡ locks.old.replica }
 {
     match written {
         Written::Answered(_) => {}
@@ -834,9 +852,10 @@ fn end_table<T: LockStore, D: Disk, L: Link>(
         ≡ with_marks (has_one_of start (unhanded locks.old.table.entries)) sessions.old }
     ensures stands { locks.new.stands ≡ false }
     ensures file { locks.new.file ≡ locks.old.file }
-    ensures copy { locks.new.copy ≡ locks.old.copy }
-    ensures told { told_list L.applied locks.new.copy
-        ≡ (if locks.old.copy.attached && is_some (L.applied locks.old.copy.link) then locks.old.table.entries else []) }
+    ensures replica { locks.new.replica ≡ locks.old.replica }
+    ensures told { told_list L.applied locks.new.replica
+        ≡ (if locks.old.replica.attached && is_some (L.applied locks.old.replica.link) then locks.old.table.entries else
+        []) }
 {
     sessions.mark(start, locks);
     locks.kill();
@@ -859,7 +878,7 @@ fn answered(
         Written::Answered(reply) => reply,
         Written::Failed(change) => {
             *condition = Condition::Doubt(call.number);
-            drop(std::mem::replace(&mut failure.pending, change));
+            drop(std::mem::replace(&mut failure.in_flight, change));
             failure.caller = call.caller;
             Reply::Refused(Refusal::StoreFault)
         }

@@ -1,12 +1,12 @@
 ghost use Rattle.std.specs.Prelude.{◌≡◌, ◌↔◌, ℕ, true, false, length, replicate, None, Some, IfErr, IfOk, IsSomeAnd, IsTrue, OnOk, is_some};
 ghost use Rattle.std.specs.List.{AllByRecursion};
-ghost use Rattle.enq_server.specs.Following.{IsLater};
+ghost use Rattle.enq_server.specs.Replica.{IsLater};
 ghost use Rattle.hall_model.specs.declared.command.Command.TheVariants as command;
 ghost use Rattle.hall_model.specs.Acts.{Admits, IsTelling};
 ghost use Rattle.hall_model.specs.Devices.{IsAsBefore, is_doubt};
 ghost use Rattle.hall_calls.specs.Filing.{AllRecover, HasFileCause};
 ghost use Rattle.hall_model.specs.Kept.{IsKnownRight, IsYoung, OutsideDoubt};
-ghost use Rattle.hall_model.specs.OpenUnits.{OfPending, open_entries};
+ghost use Rattle.hall_model.specs.OpenUnits.{OfInFlight, open_entries};
 ghost use Rattle.hall_calls.specs.Remaking.{IsFoundRight, IsNotTaken, IsReadAs, IsTakenUp, IsUnread, IsUnreadInDoubt, IsUsableAs, ledger_read, taken_in, taken_read, IsLeftReady, LeavesKnown, LeavesRemade, OnNotRemade, OnRefusedFirst, OnRemade, flight_over, remade_condition, remade_failure, remade_over, remade_reply, remade_state, remade_taken, remake_refusal, books_refusal, IsOtherRefusal, IsStoreRefusal};
 ghost use Rattle.hall_calls.specs.Serving.{DoesStore};
 ghost use Rattle.hall_model.specs.History.{known_behind};
@@ -77,7 +77,7 @@ pub(crate) fn remake<T: LockStore, K: Keeper, D: Disk, L: Link>(
     requires places { length orders.old.items ≡ 256 }
     requires usable { OutsideDoubt basis.now.condition (IsUsable K.held K.is_open books.old) }
     requires unknown { OutsideDoubt basis.now.condition (basis.now.failure.now.found ≡ None) }
-    requires settled { OutsideDoubt basis.now.condition (basis.now.failure.now.pending ≡ None) }
+    requires settled { OutsideDoubt basis.now.condition (basis.now.failure.now.in_flight ≡ None) }
     requires known { IsKnownRight basis.now.failure.now.found books.old.ledger
         (flight_over books.old.ledger basis.now.failure.now) }
     requires left { LeavesKnown K.held K.may_leave books.old.keeper basis.now.failure.now.found books.old.ledger
@@ -85,7 +85,7 @@ pub(crate) fn remake<T: LockStore, K: Keeper, D: Disk, L: Link>(
     requires lists { AllRecover D.tells D.may_leave basis.now.condition books.old.ledger
         (flight_over books.old.ledger basis.now.failure.now) basis.now.failure.now.found locks.old.file }
     ensures act { (s : State) → s.condition ≡ basis.now.condition → s.sessions ≡ sessions.old
-        → s.stored ≡ books.old.ledger → s.pending ≡ flight_over books.old.ledger basis.now.failure.now
+        → s.stored ≡ books.old.ledger → s.in_flight ≡ flight_over books.old.ledger basis.now.failure.now
         → s.found ≡ basis.now.failure.now.found
         → s.failed_caller ≡ basis.now.failure.now.caller
         → s.max_locks ≡ basis.now.max_locks → Admits s command.Restart
@@ -104,12 +104,12 @@ pub(crate) fn remake<T: LockStore, K: Keeper, D: Disk, L: Link>(
     ensures file { IsLeftReady D.tells D.reads D.may_leave books.old.ledger books.new.ledger basis.now.failure.now
         locks.old.file locks.new.file result }
     ensures cause { HasFileCause (D.faults locks.old.file.disk) (D.faults locks.new.file.disk) (remade_reply result) }
-    ensures follower { IsLater L.applied L.faults L.refusals locks.old.copy locks.new.copy }
-    ensures detached { OnRemade result (locks.new.copy.attached ≡ false) }
+    ensures replica { IsLater L.applied L.faults L.refusals locks.old.replica locks.new.replica }
+    ensures detached { OnRemade result (locks.new.replica.attached ≡ false) }
     ensures untouched { OnRefusedFirst result (locks.new ≡ locks.old) }
     // A file whose images have the lists of the open units is good.
     ensures good_file { IsTrue D.tells → IsSound (open_entries books.old.ledger)
-        → OfPending (flight_over books.old.ledger basis.now.failure.now) (λ ledger. IsSound (open_entries ledger))
+        → OfInFlight (flight_over books.old.ledger basis.now.failure.now) (λ ledger. IsSound (open_entries ledger))
         → is_unsound_file (remade_reply result) ≡ false }
     // A store that tells its rows is good, and has what it had or the change in flight.
     ensures good_store { is_some (K.held books.old.keeper) ≡ true → is_unsound_store (remade_reply result) ≡ false }
@@ -196,7 +196,7 @@ fn reread<K: Keeper>(
     ensures told { is_some (K.held books.new.keeper) ≡ is_some (K.held books.old.keeper) }
     ensures within { IsWithin (K.may_leave books.new.keeper) (K.may_leave books.old.keeper) }
 {
-    match books.reread(alloc, basis.failure.pending.as_ref()) {
+    match books.reread(alloc, basis.failure.in_flight.as_ref()) {
         Ok(reread) => taken_up(alloc, basis.failure.found, reread),
         Err(fault) => Err(Remade::InDoubt(store_refusal(&fault, basis.ranges), None)),
     }

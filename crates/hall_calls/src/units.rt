@@ -1,14 +1,15 @@
-ghost use Rattle.std.specs.Prelude.{ℕ, ◌≡◌, ◌⊎◌, ◌≤◌, ◌<◌, ◌+◌, ◌^◌, ◌++◌, None, Ok, Some, Contains, IfErr, IfOk, IfSome, OnErr, OnOk, false, true, is_some, length, nat_eq, nat_le};
+ghost use Rattle.std.specs.Prelude.{ℕ, ◌≡◌, ◌⊎◌, ◌≤◌, ◌<◌, ◌+◌, ◌^◌, ◌++◌, None, Ok, Some, Contains, IfErr, IfOk, IfSome, OnErr, OnOk, false, true, is_some, length, nat_le};
 ghost use Rattle.std.specs.List.{AllByRecursion};
-ghost use Rattle.enq_server.specs.Following.{IsLostWith, KeepsOn};
+ghost use Rattle.enq_server.specs.Replica.{IsLostWith, KeepsOn};
 ghost use Rattle.enq_server.specs.Server.{of_user};
 ghost use Rattle.hall_model.specs.declared.command.Command.TheVariants as command;
 ghost use Rattle.enq_base.specs.declared.unit.Num.{Num as Number};
 ghost use Rattle.hall_model.specs.Acts.{Admits};
-ghost use Rattle.hall_calls.specs.Written.{IsWritten, OnAnswer, IsRegained, OnFailure, OnStoreFailure, locks_posted, post_of, ranges_behind, written_reply};
+ghost use Rattle.hall_calls.specs.Written.{IsWritten, OnAnswer, IsRegained, OnFailure, OnStoreFailure, locks_posted, ranges_behind, written_reply};
 ghost use Rattle.hall_calls.specs.Commits.{AnswersCommit, IsChange, IsCommitting, IsOfCommit, RecordsNumbers, RecordsUnit, SavesList, TellsNoFault, unsaved};
 ghost use Rattle.hall_calls.specs.Marking.{EndsList, IsMarked, IsNoted, Readmits, ServesOn, orders_behind, to_post};
 ghost use Rattle.hall_calls.specs.declared.units.Written.TheVariants.{Answered};
+ghost use Rattle.hall_model.specs.Calls.{post_of};
 ghost use Rattle.hall_model.specs.Orders as claims;
 ghost use Rattle.hall_model.specs.Kept.{HasGoodLocks, HaveMarks, IsAhead, IsYoung, draws_in};
 ghost use Rattle.hall_calls.specs.Leaving.{HasStoreCause, KeepsStore, LeavesWritten};
@@ -24,8 +25,8 @@ ghost use Rattle.ledger_steps.specs.Intervals.{with_intervals, MayStore};
 ghost use Rattle.ledger_steps.specs.declared.step.Step.TheVariants.{Record, Note};
 ghost use Rattle.update_records.specs.Growing.{with_mark, with_unit};
 ghost use Rattle.update_records.specs.Marks.{status_of};
-ghost use Rattle.ledger_steps.specs.Posts as posts;
 ghost use Rattle.hall_calls.specs.Remaking.{no_failure};
+ghost use Rattle.ledger_steps.specs.Parts.{is_first};
 ghost use Rattle.ledger_steps.specs.Posts.{MayCome, WaitsFor, effects_of, entries_of, kind_for};
 ghost use Rattle.posting.specs.BooksView.{IsReady, IsUnmoved, IsUsable};
 ghost use Rattle.ledger_steps.specs.Steps.{HasMarksLeft, IsDrawing, IsNewUnit, IsOutcome, MayGet};
@@ -47,7 +48,7 @@ use enq_base::{Failed, Items, Key, Name, NoMemory, Num, Owner, Parts, Refusal, S
 use enq_server::{EnqServer, ServerFault};
 use hall_model::{Reply, Session};
 use keeper_api::{KeepFault, Keeper};
-use ledger_steps::{Outcome, Step};
+use ledger_steps::{Outcome, Part, Step};
 use lock_entry::{Asker, Entry, LockStore, hand_over};
 use posting::{Books, Prepared};
 use range_list::Ranges;
@@ -71,7 +72,7 @@ pub(crate) enum Written {
 #[derive(Drop)]
 pub(crate) struct Failure {
     /// The change that the store may have taken or not, if there is one.
-    pub(crate) pending: Option<Step>,
+    pub(crate) in_flight: Option<Step>,
     /// Whether it has, where a restart that failed later has read it.
     pub(crate) found: Option<bool>,
     /// The session in whose call a device failed.
@@ -84,7 +85,7 @@ impl Failure {
         ensures { result ≡ no_failure }
     {
         Failure {
-            pending: None,
+            in_flight: None,
             found: None,
             caller: None,
         }
@@ -98,6 +99,23 @@ struct Noted {
     kind: MarkKind,
     ends: bool,
     reply: Reply,
+}
+
+/// A worker's call that posts a part, and how many marks there may be.
+#[derive(Clone, Copy)]
+pub(crate) struct PostCall {
+    pub(crate) worker: u8,
+    pub(crate) part: Part,
+    pub(crate) max_marks: u32,
+}
+
+/// A session's commit of these effects and of these numbers of a stock, and how many marks there may be.
+#[derive(Drop)]
+pub(crate) struct CommitCall<'a> {
+    pub(crate) session: &'a Name,
+    pub(crate) parts: &'a Parts,
+    pub(crate) stock: &'a [Num],
+    pub(crate) max_marks: u32,
 }
 
 /// What a commit records.
@@ -122,6 +140,13 @@ struct NewUnit {
     levels: Items<StoredInterval>,
 }
 
+/// A unit whose list the backup file has, and what was made ready to record it.
+#[derive(Drop)]
+struct SavedUnit {
+    made: NewUnit,
+    prepared: Prepared,
+}
+
 /// Posts a part of the unit that a worker has an order for, or records where it is refused. With the V1 part the unit's
 /// locks end, in the backup file and then in the table, and the order goes.
 pub(crate) fn post<T: LockStore, K: Keeper, D: Disk, L: Link>(
@@ -129,34 +154,32 @@ pub(crate) fn post<T: LockStore, K: Keeper, D: Disk, L: Link>(
     orders: &mut Vec<Option<UnitKey>>,
     locks: &mut EnqServer<T, D, L>,
     books: &mut Books<K>,
-    worker: u8,
-    part: u8,
-    max_marks: u32,
+    call: PostCall,
 ) -> Written
     requires usable { IsUsable K.held K.is_open books.old }
-    requires limited { max_marks ≤ 1048576 }
+    requires limited { call.max_marks ≤ 1048576 }
     requires places { length orders.old.items ≡ 256 }
-    requires part { (part ≡ 1) ⊎ (part ≡ 2) }
     requires filed { HasOpenLists D.tells D.reads D.may_leave books.old.ledger locks.old.file }
     ensures act { (s : State) → s.told ≡ is_some (K.held books.old.keeper) → s.orders ≡ orders.old.items
-        → (nat_eq part 1 ≡ true → s.locks ≡ locks.old.table.entries)
-        → s.stored ≡ books.old.ledger → s.mark_limit ≡ max_marks → s.pending ≡ None → Admits s (post_of part worker)
-        → IsWritten s (post_of part worker)
+        → (is_first call.part ≡ true → s.locks ≡ locks.old.table.entries)
+        → s.stored ≡ books.old.ledger → s.mark_limit ≡ call.max_marks → s.in_flight ≡ None
+        → Admits s (post_of call.part call.worker)
+        → IsWritten s (post_of call.part call.worker)
         (record s {
           orders = orders.new.items;
-          locks = locks_posted part s.locks locks.new.table.entries;
+          locks = locks_posted call.part s.locks locks.new.table.entries;
           stored = books.new.ledger;
         })
         result }
     ensures limit { locks.new.table.limit ≡ locks.old.table.limit }
     ensures standing { locks.new.stands ≡ locks.old.stands }
     ensures file { FilesAs D.tells D.reads D.may_leave D.faults books.new.ledger locks.old.file locks.new.file result }
-    ensures unfiled { nat_eq part 1 ≡ false → locks.new.file ≡ locks.old.file }
-    ensures unshipped { nat_eq part 1 ≡ false → locks.new.copy ≡ locks.old.copy }
-    ensures second { nat_eq part 1 ≡ false → locks.new.table.entries ≡ locks.old.table.entries }
+    ensures unfiled { is_first call.part ≡ false → locks.new.file ≡ locks.old.file }
+    ensures unshipped { is_first call.part ≡ false → locks.new.replica ≡ locks.old.replica }
+    ensures second { is_first call.part ≡ false → locks.new.table.entries ≡ locks.old.table.entries }
     ensures table { OnFailure result (locks.new.table ≡ locks.old.table) }
-    ensures follower { KeepsOn L.applied L.faults L.refusals locks.old.copy locks.new.copy }
-    ensures lost { IsLostWith locks.old.copy locks.new.copy locks.old.table locks.new.table }
+    ensures replica { KeepsOn L.applied L.faults L.refusals locks.old.replica locks.new.replica }
+    ensures lost { IsLostWith locks.old.replica locks.new.replica locks.old.table locks.new.table }
     ensures orders { OnFailure result (orders.new.items ≡ orders.old.items) }
     ensures ledger { OnStoreFailure result (books.new.ledger ≡ books.old.ledger) }
     ensures usable { OnAnswer result (IsUsable K.held K.is_open books.new) }
@@ -165,16 +188,8 @@ pub(crate) fn post<T: LockStore, K: Keeper, D: Disk, L: Link>(
     ensures cause { HasStoreCause (K.faults books.old.keeper) (K.faults books.new.keeper) (written_reply result) }
     ensures kept { KeepsStore K.held K.may_leave books.old.keeper books.new.keeper (written_reply result) }
 {
-    let written = post_held(
-        alloc,
-        orders.as_slice(),
-        locks,
-        books,
-        worker,
-        part,
-        max_marks,
-    );
-    end_order(orders, worker, &written);
+    let written = post_held(alloc, orders.as_slice(), locks, books, call);
+    end_order(orders, call.worker, &written);
     written
 }
 
@@ -195,32 +210,30 @@ fn post_held<T: LockStore, K: Keeper, D: Disk, L: Link>(
     orders: &[Option<UnitKey>],
     locks: &mut EnqServer<T, D, L>,
     books: &mut Books<K>,
-    worker: u8,
-    part: u8,
-    max_marks: u32,
+    call: PostCall,
 ) -> Written
     requires usable { IsUsable K.held K.is_open books.old }
-    requires limited { max_marks ≤ 1048576 }
-    requires part { (part ≡ 1) ⊎ (part ≡ 2) }
+    requires limited { call.max_marks ≤ 1048576 }
     requires filed { HasOpenLists D.tells D.reads D.may_leave books.old.ledger locks.old.file }
     ensures act { (s : State) → s.told ≡ is_some (K.held books.old.keeper) → s.orders ≡ orders.now
-        → (nat_eq part 1 ≡ true → s.locks ≡ locks.old.table.entries)
-        → s.stored ≡ books.old.ledger → s.mark_limit ≡ max_marks → s.pending ≡ None → Admits s (post_of part worker)
-        → IsWritten s (post_of part worker)
+        → (is_first call.part ≡ true → s.locks ≡ locks.old.table.entries)
+        → s.stored ≡ books.old.ledger → s.mark_limit ≡ call.max_marks → s.in_flight ≡ None
+        → Admits s (post_of call.part call.worker)
+        → IsWritten s (post_of call.part call.worker)
         (record s {
-          orders = orders_behind s.orders worker result;
-          locks = locks_posted part s.locks locks.new.table.entries;
+          orders = orders_behind s.orders call.worker result;
+          locks = locks_posted call.part s.locks locks.new.table.entries;
           stored = books.new.ledger;
         })
         result }
     ensures serves { ServesOn L.applied L.faults L.refusals locks.old locks.new }
     ensures table { OnFailure result (locks.new.table ≡ locks.old.table) }
-    ensures second { nat_eq part 1 ≡ false → locks.new ≡ locks.old }
+    ensures second { is_first call.part ≡ false → locks.new ≡ locks.old }
     ensures file { FilesAs D.tells D.reads D.may_leave D.faults books.new.ledger locks.old.file locks.new.file result }
     ensures store { EndsAs K.held K.is_open K.may_leave K.faults books.old books.new result }
 {
-    match to_post(orders, books, worker, part, max_marks) {
-        Ok(unit) => post_unit(alloc, locks, books, unit, part),
+    match to_post(orders, books, call) {
+        Ok(unit) => post_unit(alloc, locks, books, unit, call.part),
         Err(refusal) => Written::Answered(Reply::Refused(refusal)),
     }
 }
@@ -229,17 +242,15 @@ fn post_held<T: LockStore, K: Keeper, D: Disk, L: Link>(
 fn to_post<K: Keeper>(
     orders: &[Option<UnitKey>],
     books: &Books<K>,
-    worker: u8,
-    part: u8,
-    max_marks: u32,
+    call: PostCall,
 ) -> Result<UnitKey, Refusal>
-    ensures { result ≡ to_post part books.now.ledger orders.now max_marks worker }
+    ensures { result ≡ to_post call.part books.now.ledger orders.now call.max_marks call.worker }
 {
-    let Some(unit) = order_for(orders, books, worker, part) else {
+    let Some(unit) = order_for(orders, books, call.worker, call.part) else {
         return Err(Refusal::NoOrder);
     };
-    if is_full(books, max_marks) {
-        return Err(Refusal::StoreFull(max_marks));
+    if is_full(books, call.max_marks) {
+        return Err(Refusal::StoreFull(call.max_marks));
     }
     Ok(unit)
 }
@@ -250,16 +261,15 @@ fn post_unit<T: LockStore, K: Keeper, D: Disk, L: Link>(
     locks: &mut EnqServer<T, D, L>,
     books: &mut Books<K>,
     unit: UnitKey,
-    part: u8,
+    part: Part,
 ) -> Written
     requires usable { IsUsable K.held K.is_open books.old }
     requires marks { HasMarksLeft books.old.ledger }
-    requires part { (part ≡ 1) ⊎ (part ≡ 2) }
     requires waits { WaitsFor part books.old.ledger unit }
     requires filed { HasOpenLists D.tells D.reads D.may_leave books.old.ledger locks.old.file }
     ensures act { (s : State) (worker : ℕ) → s.told ≡ is_some (K.held books.old.keeper)
-        → (nat_eq part 1 ≡ true → s.locks ≡ locks.old.table.entries)
-        → s.stored ≡ books.old.ledger → s.pending ≡ None → Admits s (post_of part worker)
+        → (is_first part ≡ true → s.locks ≡ locks.old.table.entries)
+        → s.stored ≡ books.old.ledger → s.in_flight ≡ None → Admits s (post_of part worker)
         → claims.order_for part books.old.ledger s.orders worker ≡ Some unit
         → nat_le s.mark_limit (length books.old.ledger.marks) ≡ false
         → IsWritten s (post_of part worker)
@@ -271,7 +281,7 @@ fn post_unit<T: LockStore, K: Keeper, D: Disk, L: Link>(
         result }
     ensures serves { ServesOn L.applied L.faults L.refusals locks.old locks.new }
     ensures table { OnFailure result (locks.new.table ≡ locks.old.table) }
-    ensures second { nat_eq part 1 ≡ false → locks.new ≡ locks.old }
+    ensures second { is_first part ≡ false → locks.new ≡ locks.old }
     ensures file { FilesAs D.tells D.reads D.may_leave D.faults books.new.ledger locks.old.file locks.new.file result }
     ensures store { EndsAs K.held K.is_open K.may_leave K.faults books.old books.new result }
 {
@@ -282,8 +292,8 @@ fn post_unit<T: LockStore, K: Keeper, D: Disk, L: Link>(
     };
     let noted = Noted {
         unit,
-        kind: kind_for(part, outcome),
-        ends: part == 1,
+        kind: part.kind_for(outcome),
+        ends: part.is_first(),
         reply: posted(unit, part, outcome),
     };
     note(locks, books, prepared, noted)
@@ -345,7 +355,7 @@ fn prepare<K: Keeper>(
     alloc: Global,
     books: &mut Books<K>,
     unit: &UnitKey,
-    part: u8,
+    part: Part,
 ) -> Result<(Prepared, Outcome), KeepFault>
     requires usable { IsUsable K.held K.is_open books.old }
     requires marks { HasMarksLeft books.old.ledger }
@@ -364,40 +374,31 @@ fn prepare<K: Keeper>(
     ensures crash { IsWithin (K.may_leave books.new.keeper) (K.may_leave books.old.keeper) }
     ensures cause { HasFaultCause (K.faults books.old.keeper) (K.faults books.new.keeper) result }
 {
-    if part == 1 {
-        books.prepare_post1(alloc, unit)
-    } else {
-        books.prepare_post2(alloc, unit)
+    match part {
+        Part::V1 => books.prepare_post1(alloc, unit),
+        Part::V2 => books.prepare_post2(alloc, unit),
     }
 }
 
-/// The mark of a part that is posted or refused.
-fn kind_for(part: u8, outcome: Outcome) -> MarkKind
-    ensures { result ≡ posts.kind_for part outcome }
-{
-    match outcome {
-        Outcome::Done if part == 1 => MarkKind::V1,
-        Outcome::Done => MarkKind::V2,
-        Outcome::Refused { index, reason } if part == 1 => MarkKind::Bad1 { index, reason },
-        Outcome::Refused { index, reason } => MarkKind::Bad2 { index, reason },
-    }
-}
-
-fn posted(unit: UnitKey, part: u8, outcome: Outcome) -> Reply
+fn posted(unit: UnitKey, part: Part, outcome: Outcome) -> Reply
     ensures { result ≡ step.posted_reply part unit outcome }
 {
     match outcome {
-        Outcome::Done if part == 1 => Reply::Posted(unit),
-        Outcome::Done => Reply::Closed(unit),
-        Outcome::Refused { index, reason } if part == 1 => Reply::Bad {
-            unit,
-            index,
-            reason,
+        Outcome::Done => match part {
+            Part::V1 => Reply::Posted(unit),
+            Part::V2 => Reply::Closed(unit),
         },
-        Outcome::Refused { index, reason } => Reply::Bad2 {
-            unit,
-            index,
-            reason,
+        Outcome::Refused { index, reason } => match part {
+            Part::V1 => Reply::Bad {
+                unit,
+                index,
+                reason,
+            },
+            Part::V2 => Reply::Bad2 {
+                unit,
+                index,
+                reason,
+            },
         },
     }
 }
@@ -411,13 +412,10 @@ pub(crate) fn commit<T: LockStore, K: Keeper, D: Disk, L: Link>(
     ranges: &mut Ranges,
     locks: &mut EnqServer<T, D, L>,
     books: &mut Books<K>,
-    name: &Name,
-    parts: &Parts,
-    stock: &[Num],
-    max_marks: u32,
+    call: &CommitCall<'_>,
 ) -> Written
     requires usable { IsUsable K.held K.is_open books.old }
-    requires limited { max_marks ≤ 1048576 }
+    requires limited { call.now.max_marks ≤ 1048576 }
     requires started { 1 ≤ books.old.ledger.start }
     requires young { AllByRecursion (IsYoung 262145) sessions.old }
     requires fresh { AllByRecursion (IsAhead books.old.ledger) sessions.old }
@@ -426,11 +424,11 @@ pub(crate) fn commit<T: LockStore, K: Keeper, D: Disk, L: Link>(
         (numbers_of books.old.ledger.units books.old.ledger.marks) }
     requires filed { HasOpenLists D.tells D.reads D.may_leave books.old.ledger locks.old.file }
     requires stock { IsStock (intervals_of ranges.old) books.old.ledger.levels (draws_in sessions.old)
-        (numbers_of books.old.ledger.units books.old.ledger.marks) stock.now }
+        (numbers_of books.old.ledger.units books.old.ledger.marks) call.now.stock.now }
     ensures act { (s : State) → s.sessions ≡ sessions.old → s.ranges ≡ ranges.old → s.locks ≡ locks.old.table.entries
-        → s.stored ≡ books.old.ledger → s.mark_limit ≡ max_marks
-        → Admits s (command.Commit name.now parts.now stock.now)
-        → IsWritten s (command.Commit name.now parts.now stock.now)
+        → s.stored ≡ books.old.ledger → s.mark_limit ≡ call.now.max_marks
+        → Admits s (command.Commit call.now.session.now call.now.parts.now call.now.stock.now)
+        → IsWritten s (command.Commit call.now.session.now call.now.parts.now call.now.stock.now)
         (record s {
           sessions = sessions.new;
           ranges = ranges.new;
@@ -441,17 +439,15 @@ pub(crate) fn commit<T: LockStore, K: Keeper, D: Disk, L: Link>(
     ensures limit { locks.new.table.limit ≡ locks.old.table.limit }
     ensures standing { locks.new.stands ≡ locks.old.stands }
     ensures file { FilesAs D.tells D.reads D.may_leave D.faults books.new.ledger locks.old.file locks.new.file result }
-    ensures follower { KeepsOn L.applied L.faults L.refusals locks.old.copy locks.new.copy }
-    ensures lost { IsLostWith locks.old.copy locks.new.copy locks.old.table locks.new.table }
+    ensures replica { KeepsOn L.applied L.faults L.refusals locks.old.replica locks.new.replica }
+    ensures lost { IsLostWith locks.old.replica locks.new.replica locks.old.table locks.new.table }
     ensures table { OnFailure result (locks.new.table ≡ locks.old.table) }
     ensures sessions { OnFailure result (sessions.new ≡ sessions.old) }
-    ensures ranges { OnFailure result (ranges.new ≡ ranges_behind stock.now ranges.old result) }
+    ensures ranges { OnFailure result (ranges.new ≡ ranges_behind call.now.stock.now ranges.old result) }
     ensures store { EndsAs K.held K.is_open K.may_leave K.faults books.old books.new result }
 {
-    let written = record_commit(
-        alloc, sessions, ranges, locks, books, name, parts, stock, max_marks,
-    );
-    pass_recorded(ranges, stock, &written);
+    let written = record_commit(alloc, sessions, ranges, locks, books, call);
+    pass_recorded(ranges, call.stock, &written);
     written
 }
 
@@ -473,13 +469,10 @@ fn record_commit<T: LockStore, K: Keeper, D: Disk, L: Link>(
     ranges: &Ranges,
     locks: &mut EnqServer<T, D, L>,
     books: &mut Books<K>,
-    name: &Name,
-    parts: &Parts,
-    stock: &[Num],
-    max_marks: u32,
+    call: &CommitCall<'_>,
 ) -> Written
     requires usable { IsUsable K.held K.is_open books.old }
-    requires limited { max_marks ≤ 1048576 }
+    requires limited { call.now.max_marks ≤ 1048576 }
     requires started { 1 ≤ books.old.ledger.start }
     requires young { AllByRecursion (IsYoung 262145) sessions.old }
     requires fresh { AllByRecursion (IsAhead books.old.ledger) sessions.old }
@@ -488,14 +481,14 @@ fn record_commit<T: LockStore, K: Keeper, D: Disk, L: Link>(
         (numbers_of books.old.ledger.units books.old.ledger.marks) }
     requires filed { HasOpenLists D.tells D.reads D.may_leave books.old.ledger locks.old.file }
     requires stock { IsStock (intervals_of ranges.now) books.old.ledger.levels (draws_in sessions.old)
-        (numbers_of books.old.ledger.units books.old.ledger.marks) stock.now }
+        (numbers_of books.old.ledger.units books.old.ledger.marks) call.now.stock.now }
     ensures act { (s : State) → s.sessions ≡ sessions.old → s.ranges ≡ ranges.now → s.locks ≡ locks.old.table.entries
-        → s.stored ≡ books.old.ledger → s.mark_limit ≡ max_marks
-        → Admits s (command.Commit name.now parts.now stock.now)
-        → IsWritten s (command.Commit name.now parts.now stock.now)
+        → s.stored ≡ books.old.ledger → s.mark_limit ≡ call.now.max_marks
+        → Admits s (command.Commit call.now.session.now call.now.parts.now call.now.stock.now)
+        → IsWritten s (command.Commit call.now.session.now call.now.parts.now call.now.stock.now)
         (record s {
           sessions = sessions.new;
-          ranges = ranges_behind stock.now ranges.now result;
+          ranges = ranges_behind call.now.stock.now ranges.now result;
           locks = locks.new.table.entries;
           stored = books.new.ledger;
         })
@@ -506,16 +499,16 @@ fn record_commit<T: LockStore, K: Keeper, D: Disk, L: Link>(
     ensures sessions { OnFailure result (sessions.new ≡ sessions.old) }
     ensures store { EndsAs K.held K.is_open K.may_leave K.faults books.old books.new result }
 {
-    let session = match to_commit(sessions, books, name, parts, stock, max_marks) {
+    let session = match to_commit(sessions, books, call) {
         Ok(session) => session,
         Err(reply) => return Written::Answered(reply),
     };
-    let Ok(change) = change_of(alloc, ranges, locks, books, session, parts, stock) else {
+    let Ok(change) = change_of(alloc, ranges, locks, books, session, call) else {
         return Written::Answered(Reply::Refused(Refusal::NoMemory));
     };
     match change {
-        Change::Numbers(drawn) => record_numbers(alloc, sessions, books, name, drawn),
-        Change::Unit(made) => record_unit(alloc, sessions, locks, books, name, made),
+        Change::Numbers(drawn) => record_numbers(alloc, sessions, books, call.session, drawn),
+        Change::Unit(made) => record_unit(alloc, sessions, locks, books, call.session, made),
     }
 }
 
@@ -523,31 +516,30 @@ fn record_commit<T: LockStore, K: Keeper, D: Disk, L: Link>(
 fn to_commit<'a, K: Keeper>(
     sessions: &'a Sessions,
     books: &Books<K>,
-    name: &Name,
-    parts: &Parts,
-    stock: &[Num],
-    max_marks: u32,
+    call: &CommitCall<'_>,
 ) -> Result<&'a Session, Reply>
     ensures session { IfOk result
-        (λ x. IsCommitting sessions.now books.now.ledger max_marks name.now parts.now stock.now x.now) }
+        (λ x. IsCommitting sessions.now books.now.ledger call.now.max_marks call.now.session.now call.now.parts.now
+        call.now.stock.now x.now) }
     ensures answer { IfErr result
-        (AnswersCommit sessions.now books.now.ledger max_marks name.now parts.now stock.now) }
+        (AnswersCommit sessions.now books.now.ledger call.now.max_marks call.now.session.now call.now.parts.now
+        call.now.stock.now) }
     ensures quiet { IfErr result TellsNoFault }
 {
-    let session = match session_of(sessions, name) {
+    let session = match session_of(sessions, call.session) {
         Ok(session) => session,
         Err(refusal) => return Err(Reply::Refused(refusal)),
     };
-    let effects = effects_in(parts);
-    let drawn = session.draws.as_slice().len() + stock.len();
+    let effects = effects_in(call.parts);
+    let drawn = session.draws.as_slice().len() + call.stock.len();
     if drawn > DRAWS_LIMIT || effects > EFFECTS_LIMIT {
         return Err(Reply::Refused(Refusal::UnitTooLarge));
     }
     if effects == 0 && drawn == 0 {
         return Err(Reply::Done);
     }
-    if is_full(books, max_marks) {
-        return Err(Reply::Refused(Refusal::StoreFull(max_marks)));
+    if is_full(books, call.max_marks) {
+        return Err(Reply::Refused(Refusal::StoreFull(call.max_marks)));
     }
     Ok(session)
 }
@@ -560,25 +552,24 @@ fn change_of<T: LockStore, K: Keeper, D: Disk, L: Link>(
     locks: &EnqServer<T, D, L>,
     books: &Books<K>,
     session: &Session,
-    parts: &Parts,
-    stock: &[Num],
+    call: &CommitCall<'_>,
 ) -> Result<Change, NoMemory>
     requires fit { (r : NumberRange) → Contains ranges.now r → is_buffered r.interval ≡ false
         → level_in books.now.ledger.levels r.interval + drawn_of (present books.now.ledger.levels r.interval)
-        (session.now.draws ++ stock.now) ≤ r.interval.to }
+        (session.now.draws ++ call.now.stock.now) ≤ r.interval.to }
     ensures { IfOk result
-        (IsChange books.now.ledger ranges.now locks.now.table session.now parts.now stock.now) }
+        (IsChange books.now.ledger ranges.now locks.now.table session.now call.now.parts.now call.now.stock.now) }
 {
-    let numbers = draws_and(alloc, session, stock)?;
+    let numbers = draws_and(alloc, session, call.stock)?;
     let levels = settled_rows(alloc, ranges, books, numbers.as_slice())?;
-    if effects_in(parts) == 0 {
+    if effects_in(call.parts) == 0 {
         return Ok(Change::Numbers(NewNumbers {
             unit: unit_key(books.start(), session),
             numbers: Items::from_vec(numbers),
             levels: Items::from_vec(levels),
         }));
     }
-    let unit = unit_of(alloc, books.start(), locks, session, parts, numbers)?;
+    let unit = unit_of(alloc, books.start(), locks, session, call.parts, numbers)?;
     Ok(Change::Unit(NewUnit {
         unit,
         levels: Items::from_vec(levels),
@@ -621,7 +612,14 @@ fn record_unit<T: LockStore, K: Keeper, D: Disk, L: Link>(
     ensures store { EndsAs K.held K.is_open K.may_leave K.faults books.old books.new result }
 {
     match save(alloc, locks, books, &made) {
-        Ok(prepared) => record_saved(alloc, sessions, locks, books, name, made, prepared),
+        Ok(prepared) => record_saved(
+            alloc,
+            sessions,
+            locks,
+            books,
+            name,
+            SavedUnit { made, prepared },
+        ),
         Err(fault) => unsaved(fault),
     }
 }
@@ -651,7 +649,10 @@ fn save<T: LockStore, K: Keeper, D: Disk, L: Link>(
     };
     match locks.save(alloc, &made.unit.key, &made.unit.user) {
         Ok(_) => Ok(prepared),
-        Err(fault) => Err(fault),
+        Err(fault) => {
+            drop(prepared);
+            Err(fault)
+        }
     }
 }
 
@@ -672,18 +673,17 @@ fn record_saved<T: LockStore, K: Keeper, D: Disk, L: Link>(
     locks: &mut EnqServer<T, D, L>,
     books: &mut Books<K>,
     name: &Name,
-    made: NewUnit,
-    prepared: Prepared,
+    saved: SavedUnit,
 ) -> Written
     requires usable { IsUsable K.held K.is_open books.old }
-    requires ready { IsReady K.held K.has_room books.old prepared }
-    requires step { prepared.step ≡ Record made.unit made.levels }
+    requires ready { IsReady K.held K.has_room books.old saved.prepared }
+    requires step { saved.prepared.step ≡ Record saved.made.unit saved.made.levels }
     requires young { AllByRecursion (IsYoung 262145) sessions.old }
     requires saved { IsSaved D.tells D.reads D.may_leave books.old.ledger
-        (with_intervals made.levels (with_unit books.old.ledger made.unit)) locks.old.file }
+        (with_intervals saved.made.levels (with_unit books.old.ledger saved.made.unit)) locks.old.file }
     ensures outcome { RecordsUnit sessions.old sessions.new locks.old.table.entries locks.new.table.entries
         books.old.ledger books.new.ledger
-        name.now made.unit made.levels result }
+        name.now saved.made.unit saved.made.levels result }
     ensures serves { ServesOn L.applied L.faults L.refusals locks.old locks.new }
     ensures file { FilesAs D.tells D.reads D.may_leave D.faults books.new.ledger locks.old.file locks.new.file result }
     ensures answered { IsUnrefused result }
@@ -691,6 +691,7 @@ fn record_saved<T: LockStore, K: Keeper, D: Disk, L: Link>(
     ensures sessions { OnFailure result (sessions.new ≡ sessions.old) }
     ensures store { EndsAs K.held K.is_open K.may_leave K.faults books.old books.new result }
 {
+    let SavedUnit { made, prepared } = saved;
     match write(books, prepared) {
         Ok(()) => {
             locks.flag(&made.unit.key);
@@ -748,7 +749,7 @@ pub(crate) fn read<K: Keeper>(
 ) -> Written
     requires usable { IsUsable K.held K.is_open books.old }
     ensures act { (s : State) → s.sessions ≡ sessions.now → s.told ≡ is_some (K.held books.old.keeper)
-        → s.stored ≡ books.old.ledger → s.pending ≡ None → Admits s (command.Read name.now table.now key.now)
+        → s.stored ≡ books.old.ledger → s.in_flight ≡ None → Admits s (command.Read name.now table.now key.now)
         → IsWritten s (command.Read name.now table.now key.now) (record s { stored = books.new.ledger }) result }
     ensures levels { ChangesLevels books.old.ledger books.new.ledger result }
     ensures ledger { books.new.ledger ≡ books.old.ledger }
@@ -790,8 +791,8 @@ pub(crate) fn cancel<T: LockStore, K: Keeper, D: Disk, L: Link>(
     ensures limit { locks.new.table.limit ≡ locks.old.table.limit }
     ensures standing { locks.new.stands ≡ locks.old.stands }
     ensures file { FilesAs D.tells D.reads D.may_leave D.faults books.new.ledger locks.old.file locks.new.file result }
-    ensures follower { KeepsOn L.applied L.faults L.refusals locks.old.copy locks.new.copy }
-    ensures lost { IsLostWith locks.old.copy locks.new.copy locks.old.table locks.new.table }
+    ensures replica { KeepsOn L.applied L.faults L.refusals locks.old.replica locks.new.replica }
+    ensures lost { IsLostWith locks.old.replica locks.new.replica locks.old.table locks.new.table }
     ensures table { OnFailure result (locks.new.table ≡ locks.old.table) }
     ensures ledger { OnStoreFailure result (books.new.ledger ≡ books.old.ledger) }
     ensures usable { OnAnswer result (IsUsable K.held K.is_open books.new) }
@@ -904,8 +905,8 @@ pub(crate) fn resubmit<T: LockStore, K: Keeper, D: Disk, L: Link>(
     ensures limit { locks.new.table.limit ≡ locks.old.table.limit }
     ensures standing { locks.new.stands ≡ locks.old.stands }
     ensures file { FilesAs D.tells D.reads D.may_leave D.faults books.new.ledger locks.old.file locks.new.file result }
-    ensures follower { KeepsOn L.applied L.faults L.refusals locks.old.copy locks.new.copy }
-    ensures lost { IsLostWith locks.old.copy locks.new.copy locks.old.table locks.new.table }
+    ensures replica { KeepsOn L.applied L.faults L.refusals locks.old.replica locks.new.replica }
+    ensures lost { IsLostWith locks.old.replica locks.new.replica locks.old.table locks.new.table }
     ensures table { OnFailure result
         ((locks.new.table ≡ locks.old.table) ⊎ IsRegained books.old.ledger unit locks.old.table
         locks.new.table.entries) }

@@ -1,5 +1,5 @@
 -- Calls by who makes them.
-use Rattle.std.specs.Prelude.{ℕ, Bool, true, false, nat_eq, List}
+use Rattle.std.specs.Prelude.{ℕ, Bool, true, false, List}
 use Rattle.enq_base.specs.declared.owner.UnitKey.{UnitKey}
 use Rattle.enq_base.specs.declared.unit.Num.{Num}
 use Rattle.enq_base.specs.declared.unit.Parts.{Parts}
@@ -9,6 +9,9 @@ use Rattle.hall_model.specs.declared.command.Command.{Command}
 use Rattle.hall_model.specs.declared.command.Command.TheVariants as command
 use Rattle.hall_model.specs.declared.command.Who.{Who}
 use Rattle.hall_model.specs.declared.command.Who.TheVariants as who
+use Rattle.ledger_steps.specs.declared.part.Part.TheVariants.{V1, V2}
+use Rattle.ledger_steps.specs.Parts.{is_first}
+use Rattle.ledger_steps.specs.declared.part.Part.{Part}
 
 -- what a session that is logged on may ask for
 pub data SessionCall : Type 0 where
@@ -27,10 +30,10 @@ pub data SessionCall : Type 0 where
   Commits : Parts → List Num → SessionCall
   RollsBack : SessionCall
 
--- what a worker may do; part 1 is V1, and part 2 is V2
+-- what a worker may do
 pub data WorkerCall : Type 0 where
-  Takes : ℕ → WorkerCall
-  Posts : ℕ → WorkerCall
+  Takes : Part → WorkerCall
+  Posts : Part → WorkerCall
   Drops : WorkerCall
 
 -- what an administrator may do
@@ -65,10 +68,10 @@ call_of (command.Reserve session object nr upto) = OfSession session (Reserves o
 call_of (command.Read session table key) = OfSession session (Reads table key)
 call_of (command.Commit session parts stock) = OfSession session (Commits parts stock)
 call_of (command.Rollback session) = OfSession session RollsBack
-call_of (command.Take1 worker) = OfWorker worker (Takes 1)
-call_of (command.Take2 worker) = OfWorker worker (Takes 2)
-call_of (command.Do1 worker) = OfWorker worker (Posts 1)
-call_of (command.Do2 worker) = OfWorker worker (Posts 2)
+call_of (command.Take1 worker) = OfWorker worker (Takes V1)
+call_of (command.Take2 worker) = OfWorker worker (Takes V2)
+call_of (command.Do1 worker) = OfWorker worker (Posts V1)
+call_of (command.Do2 worker) = OfWorker worker (Posts V2)
 call_of (command.DropOrder worker) = OfWorker worker Drops
 call_of command.Kill = OfAdmin Kills
 call_of command.FailOver = OfAdmin FailsOver
@@ -76,6 +79,15 @@ call_of command.Restart = OfAdmin Restarts
 call_of command.Attach = OfAdmin Attaches
 call_of (command.Cancel unit) = OfAdmin (Cancels unit)
 call_of (command.Resubmit unit) = OfAdmin (Resubmits unit)
+
+-- the command by which a worker takes an order for a part, and the one by which it does it
+abbrev pub take_of : Part → (worker : ℕ) → Command
+take_of V1 worker = command.Take1 worker
+take_of V2 worker = command.Take2 worker
+
+abbrev pub post_of : Part → (worker : ℕ) → Command
+post_of V1 worker = command.Do1 worker
+post_of V2 worker = command.Do2 worker
 
 abbrev pub who_calls : Call → Who
 who_calls (LogsOn session user) = who.Session session
@@ -97,7 +109,7 @@ session_wants_server call = true
 
 -- a V1 part ends locks, and so it wants the server that has them
 abbrev pub worker_wants_server : WorkerCall → Bool
-worker_wants_server (Posts part) = nat_eq part 1
+worker_wants_server (Posts part) = is_first part
 worker_wants_server call = false
 
 -- all but those that bring one
@@ -194,7 +206,7 @@ session_touches_file (Commits parts stock) = true
 session_touches_file call = false
 
 abbrev pub worker_touches_file : WorkerCall → Bool
-worker_touches_file (Posts part) = nat_eq part 1
+worker_touches_file (Posts part) = is_first part
 worker_touches_file call = false
 
 abbrev pub admin_touches_file : AdminCall → Bool

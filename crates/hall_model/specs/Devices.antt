@@ -1,5 +1,5 @@
 -- What the devices do in a call, and which of it may be.
-use Rattle.std.specs.Prelude.{◌≡◌, ◌≢◌, ℕ, Bool, true, false, ◌&&◌, ◌||◌, ◌++◌, nat_eq, nat_lt, length, List, []}
+use Rattle.std.specs.Prelude.{◌≡◌, ◌≢◌, ℕ, Bool, true, false, ◌&&◌, ◌||◌, ◌++◌, nat_lt, length, List, []}
 use Rattle.std.specs.Prelude.{if◌then◌else◌, Option, Some, None, IfSome, IsTrue, is_ok, is_some}
 use Rattle.enq_base.specs.declared.condition.BackupBad.{BackupBad}
 use Rattle.enq_base.specs.declared.condition.Condition.{Condition}
@@ -36,6 +36,8 @@ use Rattle.hall_model.specs.State.{State}
 use Rattle.hall_model.specs.Stocks.{MayCall}
 use Rattle.hall_model.specs.Step.{Found, Verdict, Refuses, Leaves, call_verdict, effects_in, found_in, leaves, row_in}
 use Rattle.hall_model.specs.Step.{to_resubmit, unavailable}
+use Rattle.ledger_steps.specs.Parts.{is_first}
+use Rattle.ledger_steps.specs.declared.part.Part.{Part}
 
 -- what a device gave that the state doesn't tell
 pub data Reading : Type 0 where
@@ -123,7 +125,7 @@ IsTold true P = P
 IsTold false P = Unit {0}
 
 -- the part of the unit that the worker has an order for may come to this
-abbrev pub MayPost : ℕ → Outcome → State → ℕ → Type 0
+abbrev pub MayPost : Part → Outcome → State → ℕ → Type 0
 MayPost part outcome s worker =
     IfSome (order_for part s.stored s.orders worker) (λ unit. MayComeTo s.told s.stored part unit outcome)
 
@@ -133,7 +135,7 @@ IsAsBefore found taken = IfSome found (λ known. taken ≡ known)
 
 -- a store that is read anew has the change in flight, or not
 pub record MayFind (s : State) (taken : Bool) : Type 0 where
-  pub flight : IsTrue taken → IsInFlight s.stored s.pending
+  pub flight : IsTrue taken → IsInFlight s.stored s.in_flight
   pub known : IsAsBefore s.found taken
 
 abbrev pub MayRead : Reading → State → Call → Type 0
@@ -215,7 +217,7 @@ session_uses_file s session call = false
 -- the unit that the worker has an order for waits for its V1 part, and has locks
 abbrev pub worker_uses_file : State → ℕ → WorkerCall → Bool
 worker_uses_file s worker (Posts part) =
-    nat_eq part 1 && option_map_or (waits_with_locks s.stored) (order_for part s.stored s.orders worker) false
+    is_first part && option_map_or (waits_with_locks s.stored) (order_for part s.stored s.orders worker) false
 worker_uses_file s worker call = false
 
 -- the locks that were stored with a unit whose V1 part was refused
@@ -290,8 +292,8 @@ abbrev pub ChangesLocks : State → Verdict → Type 0
 ChangesLocks s (Refuses r) = ⊥
 ChangesLocks s (Leaves after r) = after.locks ≢ s.locks
 
--- the calls in which a replica may be lost: those that ship what they change, where they are done and change it, and one
--- that brings another for which memory was wanting
+-- the calls in which a replica may be lost: those that ship what they change, where they are done and change it, and
+-- one that brings another for which memory was wanting
 abbrev pub MayLoseIn : Event → State → Call → Verdict → Type 0
 MayLoseIn Wanting s (OfAdmin Attaches) v = Unit {0}
 MayLoseIn AllWell s call v = (ships call ≡ true) × ChangesLocks s v

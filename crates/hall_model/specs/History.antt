@@ -59,9 +59,9 @@ known_behind before None = before
 known_behind before (Some taken) = Some taken
 
 -- In doubt since this call, whose place in the history it has. The table and the replica are gone, each session that
--- had a lock is marked, and the store may have what is pending, unless the call has read which it is.
+-- had a lock is marked, and the store may have what is in flight, unless the call has read which it is.
 abbrev pub doubted : State → Call → Option Bool → Option Ledger → State
-doubted s call read pending =
+doubted s call read in_flight =
     record s {
       condition = condition.Doubt (length s.past + 1);
       sessions = with_marks (had_lock s) s.sessions;
@@ -69,7 +69,7 @@ doubted s call read pending =
       limit = (replicated s.max_locks []).limit;
       attached = false;
       failed_caller = caller_behind s.failed_caller call;
-      pending = pending;
+      in_flight = in_flight;
       found = known_behind s.found read;
     }
 
@@ -83,16 +83,16 @@ abbrev pub is_unread : Reading → Call → Bool
 is_unread AsKnown (OfWorker worker (Posts part)) = true
 is_unread reading call = false
 
--- What the store may have where it fails: the change that the call makes, or where it makes none what was pending
+-- What the store may have where it fails: the change that the call makes, or where it makes none what was in flight
 -- before. A post makes none before it has read.
-abbrev pub pending_after : Reading → State → Call → Verdict → Option Ledger
-pending_after reading s call (Refuses r) = s.pending
-pending_after reading s call (Leaves after r) =
-    if only_reads call || is_unread reading call then s.pending else Some after.stored
+abbrev pub in_flight_after : Reading → State → Call → Verdict → Option Ledger
+in_flight_after reading s call (Refuses r) = s.in_flight
+in_flight_after reading s call (Leaves after r) =
+    if only_reads call || is_unread reading call then s.in_flight else Some after.stored
 
 -- the disk failed: the mark of a post or of a cancelling stands already, and of any other call there is none
 abbrev pub unfiled : State → Call → Option Bool → Ledger → State
-unfiled s call read stored = record (doubted s call read s.pending) { stored = stored }
+unfiled s call read stored = record (doubted s call read s.in_flight) { stored = stored }
 
 abbrev pub stored_before_file : State → Call → Verdict → Ledger
 stored_before_file s call (Refuses r) = s.stored
@@ -108,11 +108,11 @@ abbrev pub ends_in : Event → Reading → State → Call → Verdict → Served
 ends_in AllWell reading s call v = judged s v
 ends_in Wanting reading s call v = refused s refusal.NoMemory
 ends_in StoreFails reading s call v =
-    refused (doubted (without_stock call s) call None (pending_after reading s call v)) refusal.StoreFault
+    refused (doubted (without_stock call s) call None (in_flight_after reading s call v)) refusal.StoreFault
 ends_in BackupFails reading s call v = refused (unfiled s call (read_anew reading) (stored_before_file s call v))
     refusal.BackupFault
 ends_in LinkFails reading s call v = refused (detached s) refusal.LinkFault
-ends_in (NotRemade fault) reading s call v = refused (doubted s call (read_anew reading) s.pending) (fault_told fault)
+ends_in (NotRemade fault) reading s call v = refused (doubted s call (read_anew reading) s.in_flight) (fault_told fault)
 
 abbrev pub served : DeviceOutcome → State → Command → Served
 served o s c = losing o.lost

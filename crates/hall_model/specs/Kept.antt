@@ -22,7 +22,7 @@ use Rattle.update_records.specs.Ledger.{Ledger}
 use Rattle.update_records.specs.Marks.{status_of, unit_at}
 use Rattle.update_records.specs.declared.records.Unit.{Unit as UnitOfWork}
 use Rattle.hall_model.specs.declared.command.Session.{Session}
-use Rattle.hall_model.specs.OpenUnits.{HoldsOpenUnits, OfPending, open_entries}
+use Rattle.hall_model.specs.OpenUnits.{HoldsOpenUnits, OfInFlight, open_entries}
 use Rattle.hall_model.specs.Orders.{is_claimed}
 use Rattle.hall_model.specs.Sessions.{is_called, is_caller, owners_of}
 use Rattle.hall_model.specs.State.{State, is_honest}
@@ -164,10 +164,10 @@ WhileListed (condition.Doubt k) follows P = Unit {0}
 
 -- a change is in flight that makes a difference
 abbrev pub IsInFlight : Ledger → Option Ledger → Type 0
-IsInFlight stored pending = IsSomeAnd pending (λ changed. changed ≢ stored)
+IsInFlight stored in_flight = IsSomeAnd in_flight (λ changed. changed ≢ stored)
 
 abbrev pub IsKnownRight : Option Bool → Ledger → Option Ledger → Type 0
-IsKnownRight found stored pending = IfSome found (λ taken. IsTrue taken → IsInFlight stored pending)
+IsKnownRight found stored in_flight = IfSome found (λ taken. IsTrue taken → IsInFlight stored in_flight)
 
 pub record IsSteady (s : State) : Type 0 where
   pub started : 1 ≤ s.stored.start
@@ -177,11 +177,11 @@ pub record IsSteady (s : State) : Type 0 where
   pub drawn : IsDrawn s
   pub marked : HaveMarks s.stored
   -- in doubt alone a change is in flight, or known to be in the store or not, and has a session a call that failed
-  pub settled : OutsideDoubt s.condition (s.pending ≡ None)
+  pub settled : OutsideDoubt s.condition (s.in_flight ≡ None)
   pub unknown : OutsideDoubt s.condition (s.found ≡ None)
   pub unfailed : OutsideDoubt s.condition (s.failed_caller ≡ None)
   -- a change that is known to be there is in flight
-  pub known : IsKnownRight s.found s.stored s.pending
+  pub known : IsKnownRight s.found s.stored s.in_flight
   pub fresh : HasFreshKeys s
   pub places : length s.orders ≡ 256
   -- in doubt an order may stand whose unit waits no more
@@ -199,7 +199,7 @@ pub record HasOpenUnits (s : State) : Type 0 where
   pub held : WhileListed s.condition (s.attached && s.link_told)
       (IsTrue (is_honest s) → HoldsOpenUnits s.locks s.stored)
   pub stored : IsTrue (is_honest s) → CanStand s.stored
-  pub pending : OfPending s.pending (λ ledger. IsTrue (is_honest s) → IsSound (open_entries ledger))
+  pub in_flight : OfInFlight s.in_flight (λ ledger. IsTrue (is_honest s) → IsSound (open_entries ledger))
 
 -- ---- a change in flight
 
@@ -224,7 +224,7 @@ AreSameButCaller caller xs ys = ⊥
 
 -- With the change there is a state in order, over the same ranges and with the same sessions, but for the one whose
 -- call it is. Where the locks can be told from the calls, those of its open units may stand together.
-pub record HasLanding (s : State) (changed : Ledger) : Type 0 where
+pub record HasStateInFlight (s : State) (changed : Ledger) : Type 0 where
   pub state : State
   pub stored : state.stored ≡ changed
   pub ranges : state.ranges ≡ s.ranges
@@ -240,4 +240,4 @@ pub record IsKept (s : State) : Type 0 where
   pub steady : IsSteady s
   pub sound : HasSoundLocks s
   pub open_units : HasOpenUnits s
-  pub landing : OfPending s.pending (HasLanding s)
+  pub state_in_flight : OfInFlight s.in_flight (HasStateInFlight s)

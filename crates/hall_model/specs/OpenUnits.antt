@@ -46,6 +46,6 @@ open_entries ledger = joined (open_locks ledger)
 -- ---- in both, with a change in flight
 
 -- what is said of the ledger with the change in flight, if there is one
-abbrev pub OfPending : Option Ledger → (Ledger → Type 0) → Type 0
-OfPending None P = Unit {0}
-OfPending (Some pending) P = P pending
+abbrev pub OfInFlight : Option Ledger → (Ledger → Type 0) → Type 0
+OfInFlight None P = Unit {0}
+OfInFlight (Some in_flight) P = P in_flight

@@ -7,17 +7,18 @@ use Rattle.enq_base.specs.declared.owner.UnitKey.{UnitKey}
 use Rattle.ledger_steps.specs.Posts.{status_for}
 use Rattle.update_records.specs.Ledger.{Ledger}
 use Rattle.update_records.specs.Marks.{has_status, status_of}
+use Rattle.ledger_steps.specs.declared.part.Part.{Part}
 
 -- the unit that a worker has an order for
 abbrev pub order_of : List (Option UnitKey) → ℕ → Option UnitKey
 order_of orders worker = option_and_then (λ order. order) (slice_get orders worker)
 
--- whether a unit waits for part 1, V1, or for part 2, V2
-abbrev pub waits_for : ℕ → Ledger → UnitKey → Bool
+-- whether a unit waits for this part
+abbrev pub waits_for : Part → Ledger → UnitKey → Bool
 waits_for part ledger unit = has_status (status_for part) (status_of ledger.units ledger.marks unit)
 
 -- the unit that a worker has an order for, where it waits for this part
-abbrev pub order_for : ℕ → Ledger → List (Option UnitKey) → ℕ → Option UnitKey
+abbrev pub order_for : Part → Ledger → List (Option UnitKey) → ℕ → Option UnitKey
 order_for part ledger orders worker =
     elim (order_of orders worker) [ None ↦ None | Some unit ↦ if waits_for part ledger unit then Some unit else None ]
 

@@ -45,8 +45,8 @@ pub record State : Type 0 where
   -- what the store has, and the number of this start
   pub stored : Ledger
   -- what the store may have instead, after a commit that failed
-  pub pending : Option Ledger
-  -- Whether a restart that failed later has found what is pending in the store. None where no restart has read it
+  pub in_flight : Option Ledger
+  -- Whether a restart that failed later has found what is in flight in the store. None where no restart has read it
   -- since.
   pub found : Option Bool
   -- the session in whose call a device failed, where the server is in doubt since then
@@ -90,7 +90,7 @@ abbrev pub state_of :
     → (replica : List Entry) → ℕ → ℕ → List NumberRange → Ledger → Option Ledger → Option Bool → Option (List ℕ)
     → List PastEntry → State
 state_of told link_told attached taken_over condition sessions next_session orders table replica max_locks mark_limit
-    ranges stored pending found failed_caller past =
+    ranges stored in_flight found failed_caller past =
     record {
       condition = condition;
       sessions = sessions;
@@ -106,7 +106,7 @@ state_of told link_told attached taken_over condition sessions next_session orde
       ranges = ranges;
       attached = attached_in condition attached;
       stored = stored;
-      pending = pending;
+      in_flight = in_flight;
       found = found;
       failed_caller = failed_caller;
       past = past;
@@ -131,7 +131,7 @@ opened max_locks mark_limit intervals told link_told stored =
       ranges = first_ranges stored.levels intervals;
       attached = false;
       stored = stored;
-      pending = None;
+      in_flight = None;
       found = None;
       failed_caller = None;
       past = [];

@@ -59,6 +59,8 @@ use Rattle.hall_model.specs.Sessions.{begun, bereft_if, has_one_of, session_at, 
 use Rattle.hall_model.specs.Sessions.{without_draws, without_marks, without_session}
 use Rattle.hall_model.specs.Sessions.{with_fresh_unit, with_next_unit, owners_of, pair_of, unit_key}
 use Rattle.hall_model.specs.State.{State, table_for, unhanded}
+use Rattle.ledger_steps.specs.Parts.{is_first}
+use Rattle.ledger_steps.specs.declared.part.Part.{Part}
 
 abbrev pub answer_of : Result Unit Refusal → Reply
 answer_of (Ok done) = reply.Done
@@ -81,7 +83,7 @@ unless_refused (Some r) v = Refuses r
 -- row, where a restart read the store anew, whether the change in flight is in it, and the list that the link handed
 -- over.
 pub record Found : Type 0 where
-  pub part : ℕ → UnitKey → Outcome
+  pub part : Part → UnitKey → Outcome
   pub row : List ℕ → List ℕ → Option (List ℕ)
   pub anew : Option Bool
   pub list : List Entry
@@ -275,18 +277,18 @@ taking s worker None = Refuses refusal.Idle
 taking s worker (Some unit) = Leaves (taken s worker unit) (reply.Unit unit)
 
 -- a worker has at most one order, for either part
-abbrev pub take : ℕ → State → ℕ → Verdict
+abbrev pub take : Part → State → ℕ → Verdict
 take part s worker = elim (order_of s.orders worker) [
   | Some unit ↦ Refuses (refusal.WorkerBusy unit)
   | None ↦ taking s worker (first_unclaimed s.orders (waiting_for part s.stored))
 ]
 
 -- with the V1 part of a unit its locks go; the V2 part touches none
-abbrev pub locks_behind : ℕ → List Entry → UnitKey → List Entry
-locks_behind part locks unit = if nat_eq part 1 then freed_owner locks (Upd unit) else locks
+abbrev pub locks_behind : Part → List Entry → UnitKey → List Entry
+locks_behind part locks unit = if is_first part then freed_owner locks (Upd unit) else locks
 
 -- the unit has one mark more, and with its V1 part no locks; the order goes
-abbrev pub marked : ℕ → State → ℕ → UnitKey → MarkKind → State
+abbrev pub marked : Part → State → ℕ → UnitKey → MarkKind → State
 marked part s worker unit kind =
     record s {
       orders = without_order s.orders worker;
@@ -294,13 +296,13 @@ marked part s worker unit kind =
       stored = with_mark s.stored unit kind;
     }
 
-abbrev pub posted_reply : ℕ → UnitKey → Outcome → Reply
-posted_reply part unit outcome.Done = if nat_eq part 1 then reply.Posted unit else reply.Closed unit
+abbrev pub posted_reply : Part → UnitKey → Outcome → Reply
+posted_reply part unit outcome.Done = if is_first part then reply.Posted unit else reply.Closed unit
 posted_reply part unit (outcome.Refused index reason) =
-    if nat_eq part 1 then reply.Bad unit index reason else reply.Bad2 unit index reason
+    if is_first part then reply.Bad unit index reason else reply.Bad2 unit index reason
 
 -- the part is posted, or its refusal is recorded
-abbrev pub posting : ℕ → State → ℕ → UnitKey → Outcome → Verdict
+abbrev pub posting : Part → State → ℕ → UnitKey → Outcome → Verdict
 posting part s worker unit outcome =
     Leaves (marked part s worker unit (kind_for part outcome)) (posted_reply part unit outcome)
 
@@ -310,12 +312,12 @@ with_order_of s worker act =
     elim (order_of s.orders worker) [ None ↦ Refuses refusal.NoOrder | Some unit ↦ act unit ]
 
 -- a call of a worker that has an order for a unit which waits for this part
-abbrev pub with_order_for : ℕ → State → ℕ → (UnitKey → Verdict) → Verdict
+abbrev pub with_order_for : Part → State → ℕ → (UnitKey → Verdict) → Verdict
 with_order_for part s worker act =
     elim (order_for part s.stored s.orders worker) [ None ↦ Refuses refusal.NoOrder | Some unit ↦ act unit ]
 
 -- by what the part of a unit comes to
-abbrev pub post : ℕ → (ℕ → UnitKey → Outcome) → State → ℕ → Verdict
+abbrev pub post : Part → (Part → UnitKey → Outcome) → State → ℕ → Verdict
 post part come s worker =
     with_order_for part s worker (λ unit. with_room s (posting part s worker unit (come part unit)))
 
@@ -496,13 +498,13 @@ recovered_table s = recovered s.max_locks (open_locks s.stored)
 
 -- what the store has that was read anew: the change in flight was taken, or not
 abbrev pub stored_anew : Bool → Ledger → Option Ledger → Ledger
-stored_anew false stored pending = stored
+stored_anew false stored in_flight = stored
 stored_anew true stored None = stored
 stored_anew true stored (Some changed) = changed
 
 -- it is known then, and nothing is in flight
 abbrev pub settled : Bool → State → State
-settled taken s = record s { stored = stored_anew taken s.stored s.pending; pending = None; found = None }
+settled taken s = record s { stored = stored_anew taken s.stored s.in_flight; in_flight = None; found = None }
 
 -- A new lock server has the locks of the units that wait for their V1 part, and no others. No order stands, and numbers
 -- in memory go on. A session that had a lock has lost it, and so has one in whose call a device failed.

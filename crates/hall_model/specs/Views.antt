@@ -11,6 +11,8 @@ use Rattle.update_records.specs.Business.{numbers_of}
 use Rattle.update_records.specs.declared.view.UnitView.{UnitView}
 use Rattle.hall_model.specs.Numbers.{range_state}
 use Rattle.hall_model.specs.State.{State, seen_locks}
+use Rattle.ledger_steps.specs.declared.part.Part.TheVariants.{V1, V2}
+use Rattle.ledger_steps.specs.declared.part.Part.{Part}
 
 abbrev pub unless_in_doubt : {X : Type 0} → Condition → X → X → X
 unless_in_doubt condition.Up none x = x
@@ -34,7 +36,7 @@ abbrev pub ranges_shown : State → List RangeState
 ranges_shown s = map (range_state s) s.ranges
 
 -- how many units wait for a part
-abbrev pub waiting_shown : ℕ → State → ℕ
+abbrev pub waiting_shown : Part → State → ℕ
 waiting_shown part s = unless_in_doubt s.condition 0 (length (waiting_for part s.stored))
 
 -- ---- the gauges
@@ -49,8 +51,8 @@ abbrev pub readings_of : State → Readings
 readings_of s =
     record {
       past = length s.past;
-      waiting = waiting_shown 1 s;
-      posted = waiting_shown 2 s;
+      waiting = waiting_shown V1 s;
+      posted = waiting_shown V2 s;
       locks = length (seen_locks s);
       condition = condition_number s.condition;
     }

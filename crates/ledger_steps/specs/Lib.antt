@@ -2,6 +2,7 @@ pub mod Drawn
 pub mod Errors
 pub mod Intervals
 pub mod Levels
+pub mod Parts
 pub mod Posts
 pub mod Starts
 pub mod Steps

@@ -1,5 +1,5 @@
 -- What a part of a unit makes of the business rows, and the changes that write it.
-use Rattle.std.specs.Prelude.{◌≡◌, ℕ, nat_eq, List, [], ◌∷◌, ◌++◌, map, Option, Some, None, Ok, Err, if◌then◌else◌}
+use Rattle.std.specs.Prelude.{◌≡◌, ℕ, List, [], ◌∷◌, ◌++◌, map, Option, Some, None, Ok, Err, if◌then◌else◌}
 use Rattle.std.specs.List.{All, IsDistinct}
 use Rattle.std.specs.FinMap.{get}
 use Rattle.std.specs.Option.{option_map_or}
@@ -26,25 +26,27 @@ use Rattle.update_records.specs.declared.records.Mark.{Mark}
 use Rattle.update_records.specs.declared.records.MarkKind.{MarkKind}
 use Rattle.update_records.specs.declared.records.MarkKind.TheVariants.{V2, Bad2}
 use Rattle.update_records.specs.declared.records.Unit.{Unit as UnitOfWork}
+use Rattle.ledger_steps.specs.Parts.{is_first}
+use Rattle.ledger_steps.specs.declared.part.Part.{Part}
 use Rattle.ledger_steps.specs.Steps.{IsOutcome, post_kind}
 use Rattle.ledger_steps.specs.declared.step.Outcome.{Outcome}
 use Rattle.ledger_steps.specs.declared.step.Outcome.TheVariants.{Done, Refused}
 
 -- ---- parts
 
--- the effects of part 1, V1, or of part 2, V2
-abbrev pub effects_of : ℕ → List UnitOfWork → UnitKey → List Effect
-effects_of part units key = if nat_eq part 1 then v1_of units key else v2_of units key
+-- the effects of a part
+abbrev pub effects_of : Part → List UnitOfWork → UnitKey → List Effect
+effects_of part units key = if is_first part then v1_of units key else v2_of units key
 
 -- the locks of a unit; one that isn't there has none
 abbrev pub entries_of : List UnitOfWork → UnitKey → List Entry
 entries_of units key = option_map_or (λ unit. unit.entries) (unit_at units key) []
 
 -- the status of a unit that waits for a part
-abbrev pub status_for : ℕ → Status
-status_for part = if nat_eq part 1 then Open else Posted
+abbrev pub status_for : Part → Status
+status_for part = if is_first part then Open else Posted
 
-abbrev pub WaitsFor : ℕ → Ledger → UnitKey → Type 0
+abbrev pub WaitsFor : Part → Ledger → UnitKey → Type 0
 WaitsFor part ledger key = status_of ledger.units ledger.marks key ≡ Some (status_for part)
 
 -- the mark of a second part
@@ -52,8 +54,8 @@ abbrev pub post2_kind : Outcome → MarkKind
 post2_kind Done = V2
 post2_kind (Refused index reason) = Bad2 index reason
 
-abbrev pub kind_for : ℕ → Outcome → MarkKind
-kind_for part outcome = if nat_eq part 1 then post_kind outcome else post2_kind outcome
+abbrev pub kind_for : Part → Outcome → MarkKind
+kind_for part outcome = if is_first part then post_kind outcome else post2_kind outcome
 
 -- the outcome of a part whatever the rows are: that of applying it to some tables
 abbrev pub MayCome : List Effect → Outcome → Type 0

@@ -24,6 +24,8 @@ use Rattle.ledger_steps.specs.declared.step.Outcome.{Outcome}
 use Rattle.ledger_steps.specs.declared.step.Outcome.TheVariants.{Done, Refused}
 use Rattle.ledger_steps.specs.declared.step.Step.{Step}
 use Rattle.ledger_steps.specs.declared.step.Step.TheVariants.{Start, Record, Note, Draw, Level}
+use Rattle.ledger_steps.specs.Parts.{is_first}
+use Rattle.ledger_steps.specs.declared.part.Part.{Part}
 
 -- a change of the rows, and the step that it stands for
 pub record Plan : Type 0 where
@@ -113,8 +115,8 @@ pub record MayGet (ledger : Ledger) (key : UnitKey) (kind : MarkKind) : Type 0 w
   pub follows : may_follow (status_of ledger.units ledger.marks key) kind ≡ true
 
 -- the units that wait for a part, the one whose last mark is oldest first
-abbrev pub waiting_for : ℕ → Ledger → List UnitKey
-waiting_for part ledger = if nat_eq part 1 then waiting ledger.units ledger.marks else waiting_again ledger.units
+abbrev pub waiting_for : Part → Ledger → List UnitKey
+waiting_for part ledger = if is_first part then waiting ledger.units ledger.marks else waiting_again ledger.units
     ledger.marks
 
 -- the item at a place, counted from 1

@@ -12,6 +12,7 @@ use Rattle.ledger_steps.specs.Posts.{entries_of}
 use Rattle.ledger_steps.specs.Errors.{error_of}
 use Rattle.ledger_steps.specs.Steps.{waiting_for}
 use Rattle.update_records.specs.declared.view.UnitView.{UnitView}
+use Rattle.ledger_steps.specs.declared.part.Part.TheVariants.{V1}
 
 -- a recorded unit always has a status, that of its last mark
 abbrev pub view_of : Ledger → UnitOfWork → UnitView
@@ -45,4 +46,4 @@ locks_of ledger key = record { unit = key; entries = entries_of ledger.units key
 
 -- the units that wait for their V1 part, the one whose last mark is oldest first, with their locks
 abbrev pub open_locks : Ledger → List UnitLocks
-open_locks ledger = map (locks_of ledger) (waiting_for 1 ledger)
+open_locks ledger = map (locks_of ledger) (waiting_for V1 ledger)

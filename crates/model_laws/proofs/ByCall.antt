@@ -27,7 +27,7 @@ use Rattle.ledger_steps.specs.Steps.{waiting_for}
 use Rattle.update_records.specs.Marks.{status_of}
 use Rattle.hall_model.specs.Calls.{Call, LogsOn, OfSession, OfWorker, OfAdmin, Kills, FailsOver, Restarts, Attaches, Cancels, Resubmits, Takes, Posts, Drops, SessionCall, LogsOff, Asks, Frees, FreesAll, Converts, Draws, Reserves, Reads, Commits, RollsBack, call_of, restarts, wants_server}
 use Rattle.hall_model.specs.Devices.{DeviceOutcome, AllWell, Wanting, StoreFails, BackupFails, LinkFails, NotRemade, Reading, fault_told, found_by}
-use Rattle.hall_model.specs.History.{Served, doubted, ends_in, judged, losing, pending_after, read_anew, refused, served, stored_before_file, unfiled, without_stock}
+use Rattle.hall_model.specs.History.{Served, doubted, ends_in, in_flight_after, judged, losing, read_anew, refused, served, stored_before_file, unfiled, without_stock}
 use Rattle.hall_model.specs.Orders.{first_unclaimed, order_for, order_of, without_order}
 use Rattle.hall_model.specs.Sessions.{owners_of, pair_of, session_at, unit_key}
 use Rattle.hall_model.specs.Numbers.{drawn, next_number, other_holder, raised_to, stocked}
@@ -44,6 +44,7 @@ use Rattle.update_records.specs.Ledger.{Ledger}
 use Rattle.model_laws.proofs.Cancels.{CanBeCancelled, by_cancel}
 use Rattle.model_laws.proofs.PlainRefusals.{IsOfRule, IsPlain}
 use Rattle.model_laws.proofs.Resubmissions.{by_resubmit, table_in}
+use Rattle.ledger_steps.specs.declared.part.Part.{Part}
 
 -- a number may be drawn from this range
 pub record CanDraw (s : State) (x : Session) (object nr : List ℕ) (r : NumberRange) : Type 0 where
@@ -100,9 +101,9 @@ pub record OfEach (P : Call → Verdict → Type 0) (found : Found) (s : State) 
   pub commits : (name : List ℕ) (x : Session) (parts : Parts) (stock : List Num) → session_at s.sessions name ≡ Some x
       → P (OfSession name (Commits parts stock)) (Leaves (stocked stock (committed s x parts (x.draws ++ stock))) (reply.Unit (unit_key s.stored.start x)))
   pub rolls_back : (name : List ℕ) (x : Session) → session_at s.sessions name ≡ Some x → P (OfSession name RollsBack) (Leaves (rolled_back s x) reply.Done)
-  pub takes : (worker part : ℕ) (unit : UnitKey) → order_of s.orders worker ≡ None → first_unclaimed s.orders (waiting_for part s.stored) ≡ Some unit
+  pub takes : (worker : ℕ) (part : Part) (unit : UnitKey) → order_of s.orders worker ≡ None → first_unclaimed s.orders (waiting_for part s.stored) ≡ Some unit
       → P (OfWorker worker (Takes part)) (Leaves (taken s worker unit) (reply.Unit unit))
-  pub posts : (worker part : ℕ) (unit : UnitKey) → order_for part s.stored s.orders worker ≡ Some unit
+  pub posts : (worker : ℕ) (part : Part) (unit : UnitKey) → order_for part s.stored s.orders worker ≡ Some unit
       → P (OfWorker worker (Posts part))
       (Leaves (marked part s worker unit (kind_for part (found.part part unit))) (posted_reply part unit (found.part part unit)))
   pub drops : (worker : ℕ) (unit : UnitKey) → order_of s.orders worker ≡ Some unit
@@ -267,18 +268,18 @@ module _ (P : Call → Verdict → Type 0) (found : Found) (s : State) (each : O
   called-holds name call None at = each.refuses _ _ refl
   called-holds name call (Some x) at = session-holds name x call at
 
-  taking-holds : (worker part : ℕ) (o : Option UnitKey) → order_of s.orders worker ≡ None → first_unclaimed s.orders (waiting_for part s.stored) ≡ o
+  taking-holds : (worker : ℕ) (part : Part) (o : Option UnitKey) → order_of s.orders worker ≡ None → first_unclaimed s.orders (waiting_for part s.stored) ≡ o
       → P (OfWorker worker (Takes part)) (taking s worker o)
   taking-holds worker part None free e = each.refuses _ _ refl
   taking-holds worker part (Some unit) free e = each.takes worker part unit free e
 
-  take-holds : (worker part : ℕ) (o : Option UnitKey) → order_of s.orders worker ≡ o
+  take-holds : (worker : ℕ) (part : Part) (o : Option UnitKey) → order_of s.orders worker ≡ o
       → P (OfWorker worker (Takes part))
       (elim o [ Some unit ↦ Refuses (refusal.WorkerBusy unit) | None ↦ taking s worker (first_unclaimed s.orders (waiting_for part s.stored)) ])
   take-holds worker part None e = taking-holds worker part (first_unclaimed s.orders (waiting_for part s.stored)) e refl
   take-holds worker part (Some unit) e = each.refuses _ _ refl
 
-  post-holds : (worker part : ℕ) (o : Option UnitKey) → order_for part s.stored s.orders worker ≡ o
+  post-holds : (worker : ℕ) (part : Part) (o : Option UnitKey) → order_for part s.stored s.orders worker ≡ o
       → P (OfWorker worker (Posts part))
       (elim o [ None ↦ Refuses refusal.NoOrder | Some unit ↦ with_room s (posting part s worker unit (found.part part unit)) ])
   post-holds worker part None e = each.refuses _ _ refl
@@ -477,9 +478,9 @@ by_doubt Q found s n call down refuse anew =
     (λ c off. in_doubt_refused (Q c) found s n c down off (refuse c)) call
 
 -- where the store fails in doubt the change in flight stays the one before
-pub pending_stays : (reading : Reading) (found : Found) (s : State) (n : ℕ) (call : Call) → s.condition ≡ condition.Doubt n
-    → pending_after reading s call (call_verdict found s call) ≡ s.pending
-pending_stays reading found s n call down = by_doubt (λ c v. pending_after reading s c v ≡ s.pending) found s n call down (λ c r. refl) refl
+pub in_flight_stays : (reading : Reading) (found : Found) (s : State) (n : ℕ) (call : Call) → s.condition ≡ condition.Doubt n
+    → in_flight_after reading s call (call_verdict found s call) ≡ s.in_flight
+in_flight_stays reading found s n call down = by_doubt (λ c v. in_flight_after reading s c v ≡ s.in_flight) found s n call down (λ c r. refl) refl
 
 -- numbers of a stock aren't handed out again, and any other call leaves the ranges
 pub by_stock : (Q : Call → State → Type 0) (s : State)
@@ -508,10 +509,10 @@ pub by_event : (Q : Served → Type 0) (o : DeviceOutcome) (s : State) (c : Comm
     → Q (refused s refusal.NoMemory)
     → Q (refused (detached s) refusal.LinkFault)
     → ((reading : Reading) → Q (refused (doubted (without_stock (call_of c) s) (call_of c) None
-    (pending_after reading s (call_of c) (verdict (found_by reading s) s c))) refusal.StoreFault))
+    (in_flight_after reading s (call_of c) (verdict (found_by reading s) s c))) refusal.StoreFault))
     → ((reading : Reading) → Q (refused (unfiled s (call_of c) (read_anew reading)
     (stored_before_file s (call_of c) (verdict (found_by reading s) s c))) refusal.BackupFault))
-    → ((read : Option Bool) (r : Refusal) → Q (refused (doubted s (call_of c) read s.pending) r)) → Q (served o s c)
+    → ((read : Option Bool) (r : Refusal) → Q (refused (doubted s (call_of c) read s.in_flight) r)) → Q (served o s c)
 by_event Q o s c loses well wanting unlinked fails unfiles remakes =
     let found = found_by o.reading s in
     loses o.lost (ends_in o.event o.reading s (call_of c) (verdict found s c))
@@ -526,7 +527,7 @@ by_event Q o s c loses well wanting unlinked fails unfiles remakes =
 
 -- What the store has where the disk of the backup file fails: what it had, or with the mark of a post or of a cancelling.
 pub by_filing : (P : Ledger → Type 0) (found : Found) (s : State) (call : Call) → P s.stored
-    → ((worker part : ℕ) (unit : UnitKey) → order_for part s.stored s.orders worker ≡ Some unit
+    → ((worker : ℕ) (part : Part) (unit : UnitKey) → order_for part s.stored s.orders worker ≡ Some unit
     → P (marked part s worker unit (kind_for part (found.part part unit))).stored)
     → ((unit : UnitKey) (status : Status) → CanBeCancelled s.stored s.orders s.mark_limit unit status → P (cancelled s unit status).stored)
     → P (stored_before_file s call (call_verdict found s call))

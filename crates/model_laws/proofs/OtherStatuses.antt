@@ -1,6 +1,6 @@
 -- What a recorded unit or a mark leaves of the statuses of other units.
-use Rattle.std.proofs.Common.{◌≡◌, inl, inr, ℕ, Bool, true, false, not, ◌&&◌, ◌||◌, List, [], ◌∷◌, ◌++◌, refl, sym, ap, ◌∙◌, subst}
-use Rattle.std.specs.Prelude.{if◌then◌else◌, nat_eq, Option, Some, None}
+use Rattle.std.proofs.Common.{◌≡◌, inl, inr, Bool, true, false, not, ◌&&◌, ◌||◌, List, [], ◌∷◌, ◌++◌, refl, sym, ap, ◌∙◌, subst}
+use Rattle.std.specs.Prelude.{if◌then◌else◌, Option, Some, None}
 use Rattle.std.specs.List.{AllByRecursion, list_any}
 use Rattle.enq_base.specs.Owners.{same_unit}
 use Rattle.enq_base.specs.declared.owner.UnitKey.{UnitKey}
@@ -17,6 +17,8 @@ use Rattle.update_records.specs.declared.records.Mark.{Mark}
 use Rattle.update_records.specs.declared.records.MarkKind.{MarkKind}
 use Rattle.update_records.specs.declared.records.MarkKind.TheVariants.{Num, Rec, V1, Bad1, Again1, V2, Bad2 as BadSecond, Again2, Gone}
 use Rattle.update_records.specs.declared.records.Unit.{Unit as UnitOfWork}
+use Rattle.ledger_steps.specs.declared.part.Part.{Part}
+use Rattle.ledger_steps.specs.Parts.{is_first}
 
 -- the status of a unit in a ledger
 abbrev pub status_in : Ledger → UnitKey → Option Status
@@ -228,8 +230,8 @@ wait_either ledger true = all_wait ledger Open _ (λ key h. inl h) (ends_with Op
 wait_either ledger false = all_wait ledger Posted _ (λ key h. inr h) (ends_with Posted ledger.units ledger.marks)
 
 -- those that are offered for a part wait for one
-pub all_waiting : (part : ℕ) (ledger : Ledger) → AllByRecursion (IsWaiting ledger) (waiting_for part ledger)
-all_waiting part ledger = wait_either ledger (nat_eq part 1)
+pub all_waiting : (part : Part) (ledger : Ledger) → AllByRecursion (IsWaiting ledger) (waiting_for part ledger)
+all_waiting part ledger = wait_either ledger (is_first part)
 
 -- ---- a mark that ends the V1 part
 

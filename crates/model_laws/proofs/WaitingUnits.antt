@@ -21,6 +21,7 @@ use Rattle.update_records.specs.declared.records.MarkKind.TheVariants.{Num, Rec,
 use Rattle.update_records.specs.declared.records.Unit.{Unit as UnitOfWork}
 use Rattle.model_laws.proofs.OtherStatuses.{Ends, ends_with, undecided}
 use Rattle.model_laws.proofs.LockLists.{Among}
+use Rattle.ledger_steps.specs.declared.part.Part.TheVariants as parts
 
 by_test : (P : Type 0) (b : Bool) → (b ≡ true → P) → (b ≡ false → P) → P
 by_test P true f g = f refl
@@ -32,7 +33,7 @@ ends_open : (ledger : Ledger) (keys : List UnitKey) → AllByRecursion (Ends led
 ends_open ledger [] h = tt
 ends_open ledger (key ∷ keys) h = (h.0 None, ends_open ledger keys h.1)
 
-pub all_open : (ledger : Ledger) → AllByRecursion (IsOpenUnit ledger) (waiting_for 1 ledger)
+pub all_open : (ledger : Ledger) → AllByRecursion (IsOpenUnit ledger) (waiting_for parts.V1 ledger)
 all_open ledger = ends_open ledger (waiting ledger.units ledger.marks) (ends_with Open ledger.units ledger.marks)
 
 -- ---- those that are open are listed
@@ -91,7 +92,7 @@ none_or : (o : Option Status) (status : Status) → o ≡ None → o ≡ Some st
 none_or None status h k = cc
 none_or (Some other) status h k = cc
 
-pub open_listed : (ledger : Ledger) (unit : UnitKey) → IsOpenUnit ledger unit → Among (waiting_for 1 ledger) unit
+pub open_listed : (ledger : Ledger) (unit : UnitKey) → IsOpenUnit ledger unit → Among (waiting_for parts.V1 ledger) unit
 open_listed ledger unit h =
     by_test (Among (waiting ledger.units ledger.marks) unit) (list_any (decides unit) ledger.marks)
     (λ some. listed Open ledger.units ledger.marks unit None some h)
@@ -158,7 +159,7 @@ units_differ status units (m ∷ marks) =
       | false ↦ λ e. others
     ] refl
 
-pub waiting_differ : (ledger : Ledger) → all_pairs differ (waiting_for 1 ledger) ≡ true
+pub waiting_differ : (ledger : Ledger) → all_pairs differ (waiting_for parts.V1 ledger) ≡ true
 waiting_differ ledger = units_differ Open ledger.units ledger.marks
 
 abbrev owners_differ : Owner → Owner → Bool
@@ -179,4 +180,4 @@ keys_of_owners ledger (key ∷ keys) h =
     and_from _ _ (one_of_owners ledger key keys parts.0) (keys_of_owners ledger keys parts.1)
 
 pub open_owners_differ : (ledger : Ledger) → IsTrue (all_pairs (λ a b. not (same_owner a b)) (map owner_of (open_locks ledger)))
-open_owners_differ ledger = keys_of_owners ledger (waiting_for 1 ledger) (waiting_differ ledger)
+open_owners_differ ledger = keys_of_owners ledger (waiting_for parts.V1 ledger) (waiting_differ ledger)

@@ -103,6 +103,19 @@ given_of draws v =
           true;
     }
 
+-- what a seat has but for its draws
+abbrev pub rest_of : Hand → Hand
+rest_of v = record {
+  draws = 0;
+  tickets = v.tickets;
+  answered = v.answered;
+  limit = v.limit;
+  looks = v.looks;
+  raises =
+      v.raises;
+  right_leads = v.right_leads;
+}
+
 -- a seat with the right to raise knows as high a limit as the other
 abbrev pub leads : Hand → Hand → Bool
 leads v w = if v.raises then leb w.limit v.limit else true

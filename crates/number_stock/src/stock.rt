@@ -197,7 +197,9 @@ impl Stock {
 }
 
 impl Stock {
-    ghost use Rattle.number_stock.specs.Rule.{heard, parted, IsJoined, OwnsAnswers};
+    ghost use Rattle.std.specs.Prelude.{true, All};
+    ghost use Rattle.seat_sums.specs.Sums.{IsDistinct};
+    ghost use Rattle.number_stock.specs.Rule.{both_of, given_of, heard, parted, rest_of, IsJoined, IsKnown, OwnsAnswers};
     ghost use Rattle.number_stock.specs.Seats.{hand, IsSeatOf};
 
     /// The seat is as it was, and is known to have answered none but tickets of its own. Takes no memory.
@@ -210,6 +212,23 @@ impl Stock {
         self.table.shared.load::<Owns>(&mut seat.seat, NEXT_TICKET);
     }
 
+    // Cuts off again a seat that was taken in, with the draws that it had.
+    fn sever<N: Joined>(&self, seat: &mut StockSeat, draws: u32) -> StockSeat
+        requires own { IsSeatOf self.now seat.old }
+        requires joined { IsJoined N.first N.second (hand seat.old) }
+        requires told { N.second.draws ≡ draws }
+        ensures own { IsSeatOf self.now seat.new × IsSeatOf self.now result }
+        ensures parted { (hand seat.new ≡ parted N.first (hand seat.old))
+            × (hand result ≡ parted N.second (hand seat.old)) }
+    {
+        let given = self.table.shared.split_seat::<Parts<N>>(&mut seat.seat);
+        seat.left -= draws;
+        StockSeat {
+            left: draws,
+            seat: given,
+        }
+    }
+
     /// Takes apart again what was joined: the second seat gets back the draws, and the tickets and answers, which stand
     /// last, that it had. Both know the limit of the joined one. Takes no memory.
     pub fn part<N: Joined>(&self, whole: StockSeat, draws: u32) -> (StockSeat, StockSeat)
@@ -220,40 +239,67 @@ impl Stock {
         ensures parted { (hand result.0 ≡ parted N.first (hand whole))
             × (hand result.1 ≡ parted N.second (hand whole)) }
     {
-        let StockSeat { left, mut seat } = whole;
-        let given = self.table.shared.split_seat::<Parts<N>>(&mut seat);
-        (
-            StockSeat {
-                left: left - draws,
-                seat,
-            },
-            StockSeat {
-                left: draws,
-                seat: given,
-            },
-        )
+        let mut seat = whole;
+        let given = self.sever::<N>(&mut seat, draws);
+        (seat, given)
+    }
+
+    // Takes another seat in, and learns what all tickets together say of both.
+    fn absorb(&self, seat: &mut StockSeat, other: StockSeat)
+        requires own { IsSeatOf self.now seat.old × IsSeatOf self.now other }
+        ensures own { IsSeatOf self.now seat.new }
+        ensures both { hand seat.new ≡ both_of (hand seat.old) (hand other) }
+        ensures distinct { IsDistinct (hand seat.new).tickets × IsDistinct (hand seat.new).answered }
+        ensures below { All (λ t. t < (hand seat.new).limit) (hand seat.new).answered }
+        ensures leads { (hand seat.new).right_leads ≡ true }
+    {
+        let StockSeat { left, seat: other } = other;
+        self.glue::<Brand>(&mut seat.seat, other);
+        seat.left += left;
     }
 
     /// The second seat knows as high a limit as the first one then, which is as it was: a ticket of it below that isn't
     /// dry. Takes no memory.
-    pub fn tell(&self, from: StockSeat, to: StockSeat) -> (StockSeat, StockSeat)
-        requires own { IsSeatOf self.now from × IsSeatOf self.now to }
-        ensures own { IsSeatOf self.now result.0 × IsSeatOf self.now result.1 }
-        ensures told { (hand result.0 ≡ hand from) × (hand result.1 ≡ heard (hand from).limit (hand to)) }
+    pub fn tell(&self, from: &mut StockSeat, to: &mut StockSeat)
+        requires own { IsSeatOf self.now from.old × IsSeatOf self.now to.old }
+        ensures own { IsSeatOf self.now from.new × IsSeatOf self.now to.new }
+        ensures told { (hand from.new ≡ hand from.old) × (hand to.new ≡ heard (hand from.old).limit (hand to.old)) }
     {
-        let (kept, given) = self.split(from, 0);
-        let StockSeat { left, mut seat } = to;
-        let StockSeat {
-            left: more,
-            seat: other,
-        } = given;
-        self.glue::<Brand>(&mut seat, other);
-        (
-            kept,
-            StockSeat {
-                left: left + more,
-                seat,
-            },
-        )
+        let given = self.cut::<Brand>(from, 0);
+        self.absorb(to, given);
+    }
+
+    /// A seat keeps its draws, and hands over all else that it has, its tickets with their answers. The other one knows
+    /// these distinct then, and below its limit. Takes no memory.
+    pub fn hand_over(&self, seat: &mut StockSeat, to: &mut StockSeat)
+        requires own { IsSeatOf self.now seat.old × IsSeatOf self.now to.old }
+        ensures own { IsSeatOf self.now seat.new × IsSeatOf self.now to.new }
+        ensures kept { hand seat.new ≡ given_of (hand seat.old).draws (hand seat.old) }
+        ensures handed { hand to.new ≡ both_of (hand to.old) (rest_of (hand seat.old)) }
+        ensures owns { OwnsAnswers (hand to.old) × OwnsAnswers (rest_of (hand seat.old)) }
+        ensures limit { IsKnown (hand to.new).limit (hand to.old) }
+        ensures distinct { IsDistinct (hand to.new).tickets × IsDistinct (hand to.new).answered }
+        ensures below { All (λ t. t < (hand to.new).limit) (hand to.new).answered }
+    {
+        self.learn(seat);
+        self.learn(to);
+        let draws = seat.left;
+        let unused = self.cut::<Brand>(seat, draws);
+        let rest = std::mem::replace(seat, unused);
+        self.absorb(to, rest);
+    }
+
+    /// A seat gets back what it has handed over. The call is told what the other one was before, and what was handed to
+    /// it. Takes no memory.
+    pub fn take_back<N: Joined>(&self, seat: &mut StockSeat, from: &mut StockSeat)
+        requires own { IsSeatOf self.now seat.old × IsSeatOf self.now from.old }
+        requires joined { IsJoined N.first N.second (hand from.old) }
+        requires none { N.second.draws ≡ 0 }
+        ensures own { IsSeatOf self.now seat.new × IsSeatOf self.now from.new }
+        ensures kept { hand from.new ≡ parted N.first (hand from.old) }
+        ensures back { hand seat.new ≡ both_of (hand seat.old) (parted N.second (hand from.old)) }
+    {
+        let rest = self.sever::<N>(from, 0);
+        self.absorb(seat, rest);
     }
 }

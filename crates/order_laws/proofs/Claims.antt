@@ -1,6 +1,6 @@
 -- The units that wait for their V1 part stay claimed by workers, unless a call offers one.
 use Rattle.std.proofs.Common.{◌≡◌, ℕ, Bool, true, false, List, [], ◌∷◌, ◌++◌, set, sym, ap, ◌∙◌}
-use Rattle.std.specs.Prelude.{if◌then◌else◌, nat_eq, nat_le, Option, Some, None}
+use Rattle.std.specs.Prelude.{if◌then◌else◌, nat_le, Option, Some, None}
 use Rattle.std.proofs.lemmas.Bool.{or_parts}
 use Rattle.enq_base.specs.Owners.{same_unit}
 use Rattle.enq_base.specs.declared.owner.UnitKey.{UnitKey}
@@ -37,10 +37,13 @@ use Rattle.update_records.specs.declared.records.MarkKind.TheVariants.{Bad1, Bad
 use Rattle.order_laws.proofs.OrderLists.{claimed_elsewhere}
 use Rattle.order_laws.proofs.UpTold.{all_answers}
 use Rattle.order_laws.specs.Resting.{AreClaimed, NoneOffers, offers}
+use Rattle.ledger_steps.specs.declared.part.Part.TheVariants as parts
+use Rattle.ledger_steps.specs.declared.part.Part.{Part}
+use Rattle.ledger_steps.specs.Parts.{is_first}
 
 -- the same by the parts of a state
 abbrev ClaimedIn : Ledger → List (Option UnitKey) → Type 0
-ClaimedIn ledger orders = (unit : UnitKey) → waits_for 1 ledger unit ≡ true → is_claimed orders unit ≡ true
+ClaimedIn ledger orders = (unit : UnitKey) → waits_for parts.V1 ledger unit ≡ true → is_claimed orders unit ≡ true
 
 -- ---- marks that end the V1 part
 
@@ -57,14 +60,14 @@ posted_shut : (b : Bool) → (if b then Closed else Posted) ≡ Open → ⊥
 posted_shut true e = open_closed e
 posted_shut false e = open_posted e
 
-ends_post : (part : ℕ) (o : Outcome) → EndsFirst (kind_for part o)
+ends_post : (part : Part) (o : Outcome) → EndsFirst (kind_for part o)
 ends_post part outcome.Done =
-    elim (nat_eq part 1) as (λ t. EndsFirst (if t then V1 else V2)) [
+    elim (is_first part) as (λ t. EndsFirst (if t then V1 else V2)) [
       | true ↦ λ b before e. posted_shut b (one_status _ Open e)
       | false ↦ λ b before e. open_closed (one_status _ Open e)
     ]
 ends_post part (outcome.Refused index reason) =
-    elim (nat_eq part 1) as (λ t. EndsFirst (if t then Bad1 index reason else Bad2 index reason)) [
+    elim (is_first part) as (λ t. EndsFirst (if t then Bad1 index reason else Bad2 index reason)) [
       | true ↦ λ b before e. cc
       | false ↦ λ b before e. cc
     ]
@@ -73,8 +76,8 @@ ends_gone : EndsFirst Gone
 ends_gone b before e = cc
 
 -- such a mark brings no unit that waits for its V1 part
-marked_before : (ledger : Ledger) (key unit : UnitKey) (kind : MarkKind) → EndsFirst kind → waits_for 1 (with_mark ledger key kind) unit ≡ true
-    → (same_unit key unit ≡ false) × (waits_for 1 ledger unit ≡ true)
+marked_before : (ledger : Ledger) (key unit : UnitKey) (kind : MarkKind) → EndsFirst kind → waits_for parts.V1 (with_mark ledger key kind) unit ≡ true
+    → (same_unit key unit ≡ false) × (waits_for parts.V1 ledger unit ≡ true)
 marked_before ledger key unit kind ends waits =
     let apart = apart_from_ended ledger key unit kind ends (of_has Open (status_in (with_mark ledger key kind) unit) waits) in
     (apart, sym (ap (has_status Open) (marked_other ledger key unit kind apart)) ∙ waits)
@@ -165,7 +168,8 @@ recalled_claimed s m h =
     (λ read r on. h) in
     by_noting Q m.call.line c (takes_flight o) (served o s c) k k
 
-pub claims_from : (s : State) (made : List Made) → AnswersFrom s made → NoneOffers (calls_of made) → AreClaimed 1 s → AreClaimed 1 (state_after s made)
+pub claims_from : (s : State) (made : List Made) → AnswersFrom s made → NoneOffers (calls_of made) → AreClaimed parts.V1 s
+    → AreClaimed parts.V1 (state_after s made)
 claims_from s [] answers none h = h
 claims_from s (m ∷ ms) answers none h =
     let parts = or_parts (offers (call_of m.call.command) m.call.reply) _ none in
@@ -173,6 +177,6 @@ claims_from s (m ∷ ms) answers none h =
     (recalled_claimed s m h (ap (offers (call_of m.call.command)) answers.0.reply ∙ parts.0))
 
 -- while no call offers a unit
-pub claims_stay : (first : State) (made : List Made) → AreModelAnswers first made → NoneOffers (calls_of made) → AreClaimed 1 first
-    → AreClaimed 1 (state_after first made)
+pub claims_stay : (first : State) (made : List Made) → AreModelAnswers first made → NoneOffers (calls_of made) → AreClaimed parts.V1 first
+    → AreClaimed parts.V1 (state_after first made)
 claims_stay first made answers none h = claims_from first made (all_answers first made answers) none h

@@ -1,6 +1,6 @@
 -- Where all workers rest no unit waits.
-use Rattle.std.proofs.Common.{◌≡◌, ℕ, ◌<◌, Bool, true, false, not, cond, ◌&&◌, ◌||◌, List, [], ◌∷◌, find, length, refl, sym, ap, ◌∙◌, subst}
-use Rattle.std.specs.Prelude.{if◌then◌else◌, nat_eq, Option, Some, None}
+use Rattle.std.proofs.Common.{◌≡◌, ◌<◌, Bool, true, false, not, cond, ◌&&◌, ◌||◌, List, [], ◌∷◌, find, length, refl, sym, ap, ◌∙◌, subst}
+use Rattle.std.specs.Prelude.{if◌then◌else◌, Option, Some, None}
 use Rattle.std.specs.List.{list_any}
 use Rattle.std.proofs.lemmas.Bool.{and_from, and_parts}
 use Rattle.enq_base.specs.Owners.{same_unit}
@@ -20,6 +20,9 @@ use Rattle.ledger_steps.specs.Steps.{waiting_for}
 use Rattle.order_laws.proofs.OrderLists.{never, or_no, some_none, unclaimed_all}
 use Rattle.order_laws.specs.Behind.{NoneHasOrder}
 use Rattle.order_laws.specs.Resting.{AllRest, AreClaimed, NoneWaits}
+use Rattle.ledger_steps.specs.declared.part.Part.TheVariants.{V1, V2}
+use Rattle.ledger_steps.specs.declared.part.Part.{Part}
+use Rattle.ledger_steps.specs.Parts.{is_first}
 
 by_test : (P : Type 0) (b : Bool) → (b ≡ true → P) → (b ≡ false → P) → P
 by_test P true f g = f refl
@@ -79,10 +82,10 @@ listed_pass p status ledger key none has =
     (λ last. absurd (never (sym (ap (has_status status) (undecided (has_no_v2 ledger.units key) key None ledger.marks last)) ∙ has)))
 
 -- where there is no order of a part to take, each unit that waits for it is claimed
-pub all_claimed : (part : ℕ) (s : State) → first_unclaimed s.orders (waiting_for part s.stored) ≡ None → AreClaimed part s
+pub all_claimed : (part : Part) (s : State) → first_unclaimed s.orders (waiting_for part s.stored) ≡ None → AreClaimed part s
 all_claimed part s none unit =
     let p : UnitKey → Bool = λ u. not (is_claimed s.orders u) in
-    elim (nat_eq part 1) as (λ b. find p (if b then waiting s.stored.units s.stored.marks else waiting_again s.stored.units s.stored.marks) ≡ None
+    elim (is_first part) as (λ b. find p (if b then waiting s.stored.units s.stored.marks else waiting_again s.stored.units s.stored.marks) ≡ None
     → has_status (if b then Open else Posted) (status_of s.stored.units s.stored.marks unit) ≡ true → is_claimed s.orders unit ≡ true) [
       | true ↦ λ e has. true_from_not (is_claimed s.orders unit) (listed_pass p Open s.stored unit e has)
       | false ↦ λ e has. true_from_not (is_claimed s.orders unit) (listed_pass p Posted s.stored unit e has)
@@ -90,19 +93,19 @@ all_claimed part s none unit =
 
 -- ---- where no worker has an order
 
-none_of_part : (part : ℕ) (s : State) (unit : UnitKey) → is_claimed s.orders unit ≡ false → AreClaimed part s → waits_for part s.stored unit ≡ false
+none_of_part : (part : Part) (s : State) (unit : UnitKey) → is_claimed s.orders unit ≡ false → AreClaimed part s → waits_for part s.stored unit ≡ false
 none_of_part part s unit free claimed =
     by_test (waits_for part s.stored unit ≡ false) (waits_for part s.stored unit)
     (λ waits. absurd (never (sym free ∙ claimed unit waits))) (λ off. off)
 
-pub none_waits : (s : State) → length s.orders ≡ 256 → NoneHasOrder s → AreClaimed 1 s → AreClaimed 2 s → NoneWaits s
+pub none_waits : (s : State) → length s.orders ≡ 256 → NoneHasOrder s → AreClaimed V1 s → AreClaimed V2 s → NoneWaits s
 none_waits s places free first second unit =
     let unclaimed : is_claimed s.orders unit ≡ false =
     unclaimed_all s.orders unit (λ worker within. free worker (subst (λ n. worker < n) places within)) in
-    or_no (waits_for 1 s.stored unit) (waits_for 2 s.stored unit) (none_of_part 1 s unit unclaimed first) (none_of_part 2 s unit unclaimed second)
+    or_no (waits_for V1 s.stored unit) (waits_for V2 s.stored unit) (none_of_part V1 s unit unclaimed first) (none_of_part V2 s unit unclaimed second)
 
-pub none_waits_claimed : (s : State) → IsKept s → NoneHasOrder s → AreClaimed 1 s → AreClaimed 2 s → NoneWaits s
+pub none_waits_claimed : (s : State) → IsKept s → NoneHasOrder s → AreClaimed V1 s → AreClaimed V2 s → NoneWaits s
 none_waits_claimed s kept free first second = none_waits s kept.steady.places free first second
 
 pub none_waits_at_rest : (s : State) → IsKept s → AllRest s → NoneWaits s
-none_waits_at_rest s kept rest = none_waits_claimed s kept rest.free (all_claimed 1 s rest.first) (all_claimed 2 s rest.second)
+none_waits_at_rest s kept rest = none_waits_claimed s kept rest.free (all_claimed V1 s rest.first) (all_claimed V2 s rest.second)

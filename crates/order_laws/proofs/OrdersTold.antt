@@ -28,6 +28,8 @@ use Rattle.number_ranges.specs.declared.interval.Interval.{Interval}
 use Rattle.order_laws.proofs.OrderLists.{none_of, set_order}
 use Rattle.order_laws.proofs.UpTold.{all_answers}
 use Rattle.order_laws.specs.Behind.{IsFresh, order_after, order_behind, order_by, own_order}
+use Rattle.ledger_steps.specs.declared.part.Part.{Part}
+use Rattle.ledger_steps.specs.Parts.{is_first}
 
 -- ---- states that calls lead to
 
@@ -42,7 +44,7 @@ reached_kept s kept = record {
     holds = record { few = kept.few; steady = kept.steady };
     sound = kept.sound;
     open_units = kept.open_units;
-    landing = kept.landing;
+    state_in_flight = kept.state_in_flight;
   };
 }
 
@@ -90,11 +92,11 @@ drawn_orders s x i number =
     elim (is_buffered i) as (λ b. (behind b).orders ≡ s.orders) [ true ↦ refl | false ↦ refl ]
 
 -- a post that is answered without a refusal
-posted_ends : (part : ℕ) (unit : UnitKey) (o : Outcome) (before : Option UnitKey) → None ≡ own_order (Posts part) (posted_reply part unit o) before
+posted_ends : (part : Part) (unit : UnitKey) (o : Outcome) (before : Option UnitKey) → None ≡ own_order (Posts part) (posted_reply part unit o) before
 posted_ends part unit outcome.Done before =
-    elim (nat_eq part 1) as (λ b. None ≡ own_order (Posts part) (if b then reply.Posted unit else reply.Closed unit) before) [ true ↦ refl | false ↦ refl ]
+    elim (is_first part) as (λ b. None ≡ own_order (Posts part) (if b then reply.Posted unit else reply.Closed unit) before) [ true ↦ refl | false ↦ refl ]
 posted_ends part unit (outcome.Refused index reason) before =
-    elim (nat_eq part 1) as (λ b. None ≡ own_order (Posts part) (if b then reply.Bad unit index reason else reply.Bad2 unit index reason) before) [
+    elim (is_first part) as (λ b. None ≡ own_order (Posts part) (if b then reply.Bad unit index reason else reply.Bad2 unit index reason) before) [
       | true ↦ refl
       | false ↦ refl
     ]

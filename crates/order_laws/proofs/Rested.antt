@@ -10,6 +10,7 @@ use Rattle.order_laws.proofs.OrdersTold.{IsReached, orders_are_told, reached_aft
 use Rattle.order_laws.proofs.UpTold.{all_answers}
 use Rattle.order_laws.specs.Behind.{IsFresh}
 use Rattle.order_laws.specs.Resting.{AllRestBehind, AreClaimed, NoneWaits}
+use Rattle.ledger_steps.specs.declared.part.Part.TheVariants.{V1, V2}
 
 -- the later calls of a history
 pub later_answers : (first : State) (earlier later : List Made) → AreModelAnswers first (earlier ++ later) → AnswersFrom (state_after first earlier) later
@@ -23,9 +24,9 @@ none_waits_behind first earlier later fresh answers rest =
     let all = earlier ++ later in
     let t = state_after first all in
     let reached : IsReached t = reached_after first all (all_answers first all answers) (reached_kept first fresh.kept) in
-    let stay : AreClaimed 1 t =
-    subst (AreClaimed 1) (sym (fold-append recalled first earlier later))
+    let stay : AreClaimed V1 t =
+    subst (AreClaimed V1) (sym (fold-append recalled first earlier later))
     (claims_from (state_after first earlier) later (later_answers first earlier later answers) rest.offered
-    (all_claimed 1 (state_after first earlier) rest.first_none)) in
+    (all_claimed V1 (state_after first earlier) rest.first_none)) in
     none_waits t reached.all.holds.steady.places
-    (λ worker few. orders_are_told first all worker fresh answers few ∙ rest.free worker few) stay (all_claimed 2 t rest.second_none)
+    (λ worker few. orders_are_told first all worker fresh answers few ∙ rest.free worker few) stay (all_claimed V2 t rest.second_none)

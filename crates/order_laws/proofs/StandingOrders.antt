@@ -1,6 +1,6 @@
 -- An order stands until its worker's next call.
 use Rattle.std.proofs.Common.{◌≡◌, ◌≢◌, ℕ, ◌<◌, Bool, true, false, not, List, [], ◌∷◌, ◌++◌, refl, sym, ap, ◌∙◌, subst}
-use Rattle.std.specs.Prelude.{if◌then◌else◌, nat_eq, nat_le, Option, Some, None}
+use Rattle.std.specs.Prelude.{if◌then◌else◌, nat_le, Option, Some, None}
 use Rattle.std.proofs.lemmas.Bool.{and_parts}
 use Rattle.std.proofs.lemmas.List.Sums.{fold-append}
 use Rattle.enq_base.specs.Owners.{same_unit}
@@ -48,13 +48,15 @@ use Rattle.order_laws.proofs.UpTold.{of_up, up_if_told}
 use Rattle.order_laws.proofs.WorkerAnswers.{take_step}
 use Rattle.order_laws.specs.Behind.{IsFresh, is_up}
 use Rattle.order_laws.specs.Resting.{GoBeside, OrdersStand, goes_beside, is_by}
+use Rattle.ledger_steps.specs.declared.part.Part.{Part}
+use Rattle.ledger_steps.specs.Parts.{is_first}
 
 -- the worker has an order for the unit, which waits for this part
-record HasOrder (part worker : ℕ) (unit : UnitKey) (ledger : Ledger) (orders : List (Option UnitKey)) : Type 0 where
+record HasOrder (part : Part) (worker : ℕ) (unit : UnitKey) (ledger : Ledger) (orders : List (Option UnitKey)) : Type 0 where
   order : order_of orders worker ≡ Some unit
   waits : WaitsFor part ledger unit
 
-abbrev HasIn : ℕ → ℕ → UnitKey → State → Type 0
+abbrev HasIn : Part → ℕ → UnitKey → State → Type 0
 HasIn part worker unit s = HasOrder part worker unit s.stored s.orders
 
 has_itself : (status : Status) → has_status status (Some status) ≡ true
@@ -65,7 +67,7 @@ has_itself Closed = refl
 has_itself Bad2 = refl
 has_itself Cancelled = refl
 
-for_part : (part worker : ℕ) (unit : UnitKey) (ledger : Ledger) (orders : List (Option UnitKey)) → HasOrder part worker unit ledger orders
+for_part : (part : Part) (worker : ℕ) (unit : UnitKey) (ledger : Ledger) (orders : List (Option UnitKey)) → HasOrder part worker unit ledger orders
     → order_for part ledger orders worker ≡ Some unit
 for_part part worker unit ledger orders h =
     let waits : waits_for part ledger unit ≡ true = ap (has_status (status_for part)) h.waits ∙ has_itself (status_for part) in
@@ -74,7 +76,7 @@ for_part part worker unit ledger orders h =
 
 -- ---- other calls
 
-raised_has : (part worker : ℕ) (unit : UnitKey) (ledger : Ledger) (orders : List (Option UnitKey)) (i : Interval) (upto : ℕ)
+raised_has : (part : Part) (worker : ℕ) (unit : UnitKey) (ledger : Ledger) (orders : List (Option UnitKey)) (i : Interval) (upto : ℕ)
     → HasOrder part worker unit ledger orders → HasOrder part worker unit (raised_to i upto ledger) orders
 raised_has part worker unit ledger orders i upto h =
     let raised = with_intervals (stored_as (with_level (block_level i upto) i) ∷ []) ledger in
@@ -83,7 +85,7 @@ raised_has part worker unit ledger orders i upto h =
       | false ↦ record { order = h.order; waits = h.waits }
     ]
 
-drawn_has : (part worker : ℕ) (unit : UnitKey) (s : State) (x : Session) (i : Interval) (number : ℕ) → HasIn part worker unit s
+drawn_has : (part : Part) (worker : ℕ) (unit : UnitKey) (s : State) (x : Session) (i : Interval) (number : ℕ) → HasIn part worker unit s
     → HasIn part worker unit (drawn s x i number)
 drawn_has part worker unit s x i number h =
     let t : State = record s { sessions = with_session x.name (with_draw (num_of i number)) s.sessions } in
@@ -94,25 +96,25 @@ drawn_has part worker unit s x i number h =
     ]
 
 -- another unit is marked
-marked_has : (part worker : ℕ) (unit key : UnitKey) (kind : MarkKind) (ledger : Ledger) (orders : List (Option UnitKey)) → same_unit key unit ≡ false
+marked_has : (part : Part) (worker : ℕ) (unit key : UnitKey) (kind : MarkKind) (ledger : Ledger) (orders : List (Option UnitKey)) → same_unit key unit ≡ false
     → HasOrder part worker unit ledger orders → HasOrder part worker unit (with_mark ledger key kind) orders
 marked_has part worker unit key kind ledger orders differ h =
     record { order = h.order; waits = marked_other ledger key unit kind differ ∙ h.waits }
 
-waits_not : (part : ℕ) (status : Status) → (status ≡ Open → ⊥) → (status ≡ Posted → ⊥) → status ≡ status_for part → ⊥
+waits_not : (part : Part) (status : Status) → (status ≡ Open → ⊥) → (status ≡ Posted → ⊥) → status ≡ status_for part → ⊥
 waits_not part status no_open no_posted =
-    elim (nat_eq part 1) as (λ b. status ≡ (if b then Open else Posted) → ⊥) [ true ↦ no_open | false ↦ no_posted ]
+    elim (is_first part) as (λ b. status ≡ (if b then Open else Posted) → ⊥) [ true ↦ no_open | false ↦ no_posted ]
 
 -- a unit of which a part was refused is another one
-apart_from_refused : (part worker : ℕ) (unit key : UnitKey) (status : Status) (ledger : Ledger) (orders : List (Option UnitKey))
+apart_from_refused : (part : Part) (worker : ℕ) (unit key : UnitKey) (status : Status) (ledger : Ledger) (orders : List (Option UnitKey))
     → (status ≡ Open → ⊥) → (status ≡ Posted → ⊥) → status_in ledger key ≡ Some status → HasOrder part worker unit ledger orders → same_unit key unit ≡ false
 apart_from_refused part worker unit key status ledger orders no_open no_posted here h =
     apart_by ledger key unit status (status_for part) here h.waits (waits_not part status no_open no_posted)
 
-abbrev KeepsOrder : ℕ → ℕ → UnitKey → Call → State → Type 0
+abbrev KeepsOrder : Part → ℕ → UnitKey → Call → State → Type 0
 KeepsOrder part worker unit call t = is_by worker call ≡ false → HasIn part worker unit t
 
-each-keeps : (part worker : ℕ) (unit : UnitKey) (found : Found) (s : State) → s.condition ≡ condition.Up → IsSteady s → AreOrders s.stored s.orders
+each-keeps : (part : Part) (worker : ℕ) (unit : UnitKey) (found : Found) (s : State) → s.condition ≡ condition.Up → IsSteady s → AreOrders s.stored s.orders
     → HasIn part worker unit s → OfEach (λ call v. KeepsOrder part worker unit call (judged s v).state) found s
 each-keeps part worker unit found s up steady orders h = record {
   refuses = λ call r plain off. h;
@@ -167,10 +169,10 @@ each-keeps part worker unit found s up steady orders h = record {
       (apart_from_refused part worker unit key Bad2 s.stored s.orders (λ e. cc) (λ e. cc) here h) h;
 }
 
-abbrev KeepsWhileUp : ℕ → ℕ → UnitKey → Served → Type 0
+abbrev KeepsWhileUp : Part → ℕ → UnitKey → Served → Type 0
 KeepsWhileUp part worker unit r = r.state.condition ≡ condition.Up → HasIn part worker unit r.state
 
-recalled_keeps : (part worker : ℕ) (unit : UnitKey) (s : State) (m : Made) → IsReached s → s.condition ≡ condition.Up
+recalled_keeps : (part : Part) (worker : ℕ) (unit : UnitKey) (s : State) (m : Made) → IsReached s → s.condition ≡ condition.Up
     → is_by worker (call_of m.call.command) ≡ false → HasIn part worker unit s → KeepsWhileUp part worker unit (again s m)
 recalled_keeps part worker unit s m reached up off h =
     let c = m.call.command in
@@ -194,7 +196,7 @@ not_so : (b : Bool) → not b ≡ true → b ≡ false
 not_so true h = absurd (never h)
 not_so false h = refl
 
-stands : (part worker : ℕ) (unit : UnitKey) (s : State) (made : List Made) → AnswersFrom s made → IsReached s → s.condition ≡ condition.Up
+stands : (part : Part) (worker : ℕ) (unit : UnitKey) (s : State) (made : List Made) → AnswersFrom s made → IsReached s → s.condition ≡ condition.Up
     → GoBeside worker (calls_of made) → HasIn part worker unit s → HasIn part worker unit (state_after s made)
 stands part worker unit s [] answers reached up beside h = h
 stands part worker unit s (m ∷ ms) answers reached up beside h =
@@ -207,24 +209,24 @@ stands part worker unit s (m ∷ ms) answers reached up beside h =
 -- ---- the take
 
 -- the unit that is offered for a part waits for it
-first_waits : (part : ℕ) (ledger : Ledger) (orders : List (Option UnitKey)) (unit : UnitKey) → first_unclaimed orders (waiting_for part ledger) ≡ Some unit
+first_waits : (part : Part) (ledger : Ledger) (orders : List (Option UnitKey)) (unit : UnitKey) → first_unclaimed orders (waiting_for part ledger) ≡ Some unit
     → WaitsFor part ledger unit
 first_waits part ledger orders unit =
     let p : UnitKey → Bool = λ u. not (is_claimed orders u) in
     let units = ledger.units in
     let marks = ledger.marks in
-    elim (nat_eq part 1) as (λ b. first_unclaimed orders (if b then waiting units marks else waiting_again units marks) ≡ Some unit
+    elim (is_first part) as (λ b. first_unclaimed orders (if b then waiting units marks else waiting_again units marks) ≡ Some unit
     → status_of units marks unit ≡ Some (if b then Open else Posted)) [
       | true ↦ λ e. (found_all (Ends units marks Open) p (waiting units marks) unit e (ends_with Open units marks)).0 None
       | false ↦ λ e. (found_all (Ends units marks Posted) p (waiting_again units marks) unit e (ends_with Posted units marks)).0 None
     ]
 
 -- the server is up, and the worker has the order
-record Begins (part worker : ℕ) (unit : UnitKey) (t : State) : Type 0 where
+record Begins (part : Part) (worker : ℕ) (unit : UnitKey) (t : State) : Type 0 where
   up : t.condition ≡ condition.Up
   has : HasOrder part worker unit t.stored t.orders
 
-abbrev BeginsIf : ℕ → ℕ → UnitKey → Served → Type 0
+abbrev BeginsIf : Part → ℕ → UnitKey → Served → Type 0
 BeginsIf part worker unit r = r.reply ≡ reply.Unit unit → Begins part worker unit r.state
 
 refused_none : (unit : UnitKey) (r : Refusal) → reply.Refused r ≡ reply.Unit unit → ⊥
@@ -233,7 +235,7 @@ refused_none unit r e = cc
 same_unit_told : (a b : UnitKey) → reply.Unit a ≡ reply.Unit b → a ≡ b
 same_unit_told a b e = cc
 
-take_begins : (part worker : ℕ) (unit : UnitKey) (s : State) (m : Made) → IsReached s → worker < 256 → s.condition ≡ condition.Up → IsModelAnswer s m
+take_begins : (part : Part) (worker : ℕ) (unit : UnitKey) (s : State) (m : Made) → IsReached s → worker < 256 → s.condition ≡ condition.Up → IsModelAnswer s m
     → call_of m.call.command ≡ OfWorker worker (Takes part) → m.call.reply ≡ reply.Unit unit → Begins part worker unit (recalled s m)
 take_begins part worker unit s m reached few up answer is told =
     take_step (BeginsIf part worker unit) m.outcome s m.call.line m.call.command worker part up is answer.allowed.possible (record {

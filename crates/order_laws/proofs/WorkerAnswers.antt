@@ -1,6 +1,6 @@
 -- What a worker's call is answered while the server is up.
 use Rattle.std.proofs.Common.{◌≡◌, ℕ, Bool, true, false, ◌&&◌, ◌||◌, refl, sym, ap, ◌∙◌, subst}
-use Rattle.std.specs.Prelude.{if◌then◌else◌, nat_eq, Option, Some, None}
+use Rattle.std.specs.Prelude.{if◌then◌else◌, Option, Some, None}
 use Rattle.std.proofs.lemmas.Bool.{or_parts}
 use Rattle.enq_base.specs.declared.condition.Condition.TheVariants as condition
 use Rattle.enq_base.specs.declared.owner.UnitKey.{UnitKey}
@@ -24,6 +24,8 @@ use Rattle.ledger_steps.specs.declared.step.Outcome.TheVariants as outcome
 use Rattle.order_laws.proofs.OrderLists.{never, or_no}
 use Rattle.order_laws.specs.Behind.{ends_server, goes_wrong, is_no_memory, is_post, is_trouble, wants}
 use Rattle.order_laws.specs.Resting.{FindsNone, is_done_unless, may_refuse_post, may_refuse_take}
+use Rattle.ledger_steps.specs.declared.part.Part.{Part}
+use Rattle.ledger_steps.specs.Parts.{is_first}
 
 -- ---- a worker's call
 
@@ -44,30 +46,30 @@ by_up Q found s worker call up full own =
 -- ---- takes
 
 -- what holds of each answer that a take may get
-pub record OfTake (Q : Verdict → Type 0) (s : State) (worker part : ℕ) : Type 0 where
+pub record OfTake (Q : Verdict → Type 0) (s : State) (worker : ℕ) (part : Part) : Type 0 where
   pub full : Q (Refuses refusal.LogFull)
   pub busy : (unit : UnitKey) → order_of s.orders worker ≡ Some unit → Q (Refuses (refusal.WorkerBusy unit))
   pub idle : order_of s.orders worker ≡ None → first_unclaimed s.orders (waiting_for part s.stored) ≡ None → Q (Refuses refusal.Idle)
   pub takes : (unit : UnitKey) → order_of s.orders worker ≡ None → first_unclaimed s.orders (waiting_for part s.stored) ≡ Some unit
       → Q (Leaves (taken s worker unit) (reply.Unit unit))
 
-by_offer : (Q : Verdict → Type 0) (s : State) (worker part : ℕ) (o : Option UnitKey) → first_unclaimed s.orders (waiting_for part s.stored) ≡ o
+by_offer : (Q : Verdict → Type 0) (s : State) (worker : ℕ) (part : Part) (o : Option UnitKey) → first_unclaimed s.orders (waiting_for part s.stored) ≡ o
     → order_of s.orders worker ≡ None → OfTake Q s worker part → Q (taking s worker o)
 by_offer Q s worker part None none free each = each.idle free none
 by_offer Q s worker part (Some unit) some free each = each.takes unit free some
 
-by_order : (Q : Verdict → Type 0) (s : State) (worker part : ℕ) (o : Option UnitKey) → order_of s.orders worker ≡ o → OfTake Q s worker part
+by_order : (Q : Verdict → Type 0) (s : State) (worker : ℕ) (part : Part) (o : Option UnitKey) → order_of s.orders worker ≡ o → OfTake Q s worker part
     → Q (elim o [ Some unit ↦ Refuses (refusal.WorkerBusy unit) | None ↦ taking s worker (first_unclaimed s.orders (waiting_for part s.stored)) ])
 by_order Q s worker part None free each = by_offer Q s worker part (first_unclaimed s.orders (waiting_for part s.stored)) refl free each
 by_order Q s worker part (Some unit) has each = each.busy unit has
 
-by_take : (Q : Verdict → Type 0) (found : Found) (s : State) (worker part : ℕ) → s.condition ≡ condition.Up → OfTake Q s worker part
+by_take : (Q : Verdict → Type 0) (found : Found) (s : State) (worker : ℕ) (part : Part) → s.condition ≡ condition.Up → OfTake Q s worker part
     → Q (call_verdict found s (OfWorker worker (Takes part)))
 by_take Q found s worker part up each =
     by_up Q found s worker (Takes part) up each.full (by_order Q s worker part (order_of s.orders worker) refl each)
 
 -- no device fails in a take
-take_well : (e : Event) (s : State) (worker part : ℕ) (v : Verdict) → MayHappen e s (OfWorker worker (Takes part)) v → e ≡ AllWell
+take_well : (e : Event) (s : State) (worker : ℕ) (part : Part) (v : Verdict) → MayHappen e s (OfWorker worker (Takes part)) v → e ≡ AllWell
 take_well AllWell s worker part v may = refl
 take_well Wanting s worker part v may = absurd (never may.1)
 take_well StoreFails s worker part v may = absurd (never may.1)
@@ -76,7 +78,7 @@ take_well LinkFails s worker part v may = absurd (never may.1)
 take_well (NotRemade fault) s worker part v may = absurd (never may.1)
 
 -- and no replica is lost
-never_lost : (e : Event) (s : State) (worker part : ℕ) (v : Verdict) → MayLoseIn e s (OfWorker worker (Takes part)) v → ⊥
+never_lost : (e : Event) (s : State) (worker : ℕ) (part : Part) (v : Verdict) → MayLoseIn e s (OfWorker worker (Takes part)) v → ⊥
 never_lost AllWell s worker part v may = never may.0
 never_lost Wanting s worker part v may = may
 never_lost StoreFails s worker part v may = may
@@ -84,7 +86,7 @@ never_lost BackupFails s worker part v may = may
 never_lost LinkFails s worker part v may = may
 never_lost (NotRemade fault) s worker part v may = may
 
-take_follows : (lost : Bool) (e : Event) (s : State) (worker part : ℕ) (v : Verdict) → MayLose lost e s (OfWorker worker (Takes part)) v → lost ≡ false
+take_follows : (lost : Bool) (e : Event) (s : State) (worker : ℕ) (part : Part) (v : Verdict) → MayLose lost e s (OfWorker worker (Takes part)) v → lost ≡ false
 take_follows false e s worker part v may = refl
 take_follows true e s worker part v may = absurd (never_lost e s worker part v may.may)
 
@@ -96,7 +98,8 @@ abbrev Happens : DeviceOutcome → State → Call → Type 0
 Happens o s call =
     MayHappen o.event s call (call_verdict (found_by o.reading s) s call) × MayLose o.lost o.event s call (call_verdict (found_by o.reading s) s call)
 
-take_ended : (Q : Served → Type 0) (o : DeviceOutcome) (s : State) (worker part : ℕ) → s.condition ≡ condition.Up → Happens o s (OfWorker worker (Takes part))
+take_ended : (Q : Served → Type 0) (o : DeviceOutcome) (s : State) (worker : ℕ) (part : Part) → s.condition ≡ condition.Up
+    → Happens o s (OfWorker worker (Takes part))
     → OfTake (λ v. Q (judged s v)) s worker part → Q (ended o s (OfWorker worker (Takes part)))
 take_ended Q o s worker part up may each =
     let call = OfWorker worker (Takes part) in
@@ -111,7 +114,7 @@ take_ended Q o s worker part up may each =
     })))
 
 -- a take with its place in the history
-pub take_step : (Q : Served → Type 0) (o : DeviceOutcome) (s : State) (line : ℕ) (c : Command) (worker part : ℕ) → s.condition ≡ condition.Up
+pub take_step : (Q : Served → Type 0) (o : DeviceOutcome) (s : State) (line : ℕ) (c : Command) (worker : ℕ) (part : Part) → s.condition ≡ condition.Up
     → call_of c ≡ OfWorker worker (Takes part) → IsPossible o s c
     → OfTake (λ v. Q (noted line c (takes_flight o) (judged s v))) s worker part → Q (step o s line c)
 take_step Q o s line c worker part up is possible each =
@@ -122,7 +125,7 @@ take_step Q o s line c worker part up is possible each =
 
 -- ---- a take that finds no unit
 
-abbrev IfIdle : State → ℕ → ℕ → Served → Type 0
+abbrev IfIdle : State → ℕ → Part → Served → Type 0
 IfIdle s worker part r = r.reply ≡ reply.Refused refusal.Idle → FindsNone s r.state worker part
 
 not_full : reply.Refused refusal.LogFull ≡ reply.Refused refusal.Idle → ⊥
@@ -134,7 +137,7 @@ not_busy unit e = cc
 not_taken : (unit : UnitKey) → reply.Unit unit ≡ reply.Refused refusal.Idle → ⊥
 not_taken unit e = cc
 
-pub idle_step : (o : DeviceOutcome) (s : State) (line : ℕ) (c : Command) (worker part : ℕ) → s.condition ≡ condition.Up
+pub idle_step : (o : DeviceOutcome) (s : State) (line : ℕ) (c : Command) (worker : ℕ) (part : Part) → s.condition ≡ condition.Up
     → call_of c ≡ OfWorker worker (Takes part) → IsPossible o s c → IfIdle s worker part (step o s line c)
 idle_step o s line c worker part up is possible =
     take_step (IfIdle s worker part) o s line c worker part up is possible (record {
@@ -145,7 +148,7 @@ idle_step o s line c worker part up is possible =
     })
 
 -- the same of two states
-pub idle_take : (s t : State) (line : ℕ) (c : Command) (worker part : ℕ) → s.condition ≡ condition.Up → call_of c ≡ OfWorker worker (Takes part)
+pub idle_take : (s t : State) (line : ℕ) (c : Command) (worker : ℕ) (part : Part) → s.condition ≡ condition.Up → call_of c ≡ OfWorker worker (Takes part)
     → IsStep s t line c (reply.Refused refusal.Idle) → FindsNone s t worker part
 idle_take s t line c worker part up is h =
     subst (λ (r : Served). IfIdle s worker part r) (sym h.same) (idle_step h.outcome s line c worker part up is h.allowed.possible) refl
@@ -155,7 +158,7 @@ idle_take s t line c worker part up is h =
 abbrev TakesUnless : Served → Type 0
 TakesUnless r = is_done_unless may_refuse_take r.reply ≡ true
 
-pub take_told : (o : DeviceOutcome) (s : State) (line : ℕ) (c : Command) (worker part : ℕ) → s.condition ≡ condition.Up
+pub take_told : (o : DeviceOutcome) (s : State) (line : ℕ) (c : Command) (worker : ℕ) (part : Part) → s.condition ≡ condition.Up
     → call_of c ≡ OfWorker worker (Takes part) → IsPossible o s c → TakesUnless (step o s line c)
 take_told o s line c worker part up is possible =
     take_step TakesUnless o s line c worker part up is possible (record {
@@ -165,7 +168,7 @@ take_told o s line c worker part up is possible =
       takes = λ unit free some. refl;
     })
 
-pub take_answered : (s : State) (m : Made) (worker part : ℕ) → s.condition ≡ condition.Up → call_of m.call.command ≡ OfWorker worker (Takes part)
+pub take_answered : (s : State) (m : Made) (worker : ℕ) (part : Part) → s.condition ≡ condition.Up → call_of m.call.command ≡ OfWorker worker (Takes part)
     → IsModelAnswer s m → is_done_unless may_refuse_take m.call.reply ≡ true
 take_answered s m worker part up is answer =
     subst (λ r. is_done_unless may_refuse_take r ≡ true) answer.reply
@@ -187,7 +190,7 @@ taken_busy key unit e = cc
 one_busy : (key unit : UnitKey) → reply.Refused (refusal.WorkerBusy key) ≡ reply.Refused (refusal.WorkerBusy unit) → key ≡ unit
 one_busy key unit e = cc
 
-pub busy_take : (s : State) (m : Made) (worker part : ℕ) (unit : UnitKey) → s.condition ≡ condition.Up
+pub busy_take : (s : State) (m : Made) (worker : ℕ) (part : Part) (unit : UnitKey) → s.condition ≡ condition.Up
     → call_of m.call.command ≡ OfWorker worker (Takes part) → IsModelAnswer s m → m.call.reply ≡ reply.Refused (refusal.WorkerBusy unit)
     → order_of s.orders worker ≡ Some unit
 busy_take s m worker part unit up is answer told =
@@ -203,16 +206,16 @@ busy_take s m worker part unit up is answer told =
 abbrev PostsUnless : Served → Type 0
 PostsUnless r = is_done_unless may_refuse_post r.reply ≡ true
 
-posted_done : (may : Refusal → Bool) (part : ℕ) (unit : UnitKey) (o : Outcome) → is_done_unless may (posted_reply part unit o) ≡ true
+posted_done : (may : Refusal → Bool) (part : Part) (unit : UnitKey) (o : Outcome) → is_done_unless may (posted_reply part unit o) ≡ true
 posted_done may part unit outcome.Done =
-    elim (nat_eq part 1) as (λ b. is_done_unless may (if b then reply.Posted unit else reply.Closed unit) ≡ true) [ true ↦ refl | false ↦ refl ]
+    elim (is_first part) as (λ b. is_done_unless may (if b then reply.Posted unit else reply.Closed unit) ≡ true) [ true ↦ refl | false ↦ refl ]
 posted_done may part unit (outcome.Refused index reason) =
-    elim (nat_eq part 1) as (λ b. is_done_unless may (if b then reply.Bad unit index reason else reply.Bad2 unit index reason) ≡ true) [
+    elim (is_first part) as (λ b. is_done_unless may (if b then reply.Bad unit index reason else reply.Bad2 unit index reason) ≡ true) [
       | true ↦ refl
       | false ↦ refl
     ]
 
-post_verdict : (found : Found) (s : State) (worker part : ℕ) (unit : UnitKey) → s.condition ≡ condition.Up
+post_verdict : (found : Found) (s : State) (worker : ℕ) (part : Part) (unit : UnitKey) → s.condition ≡ condition.Up
     → order_for part s.stored s.orders worker ≡ Some unit → PostsUnless (judged s (call_verdict found s (OfWorker worker (Posts part))))
 post_verdict found s worker part unit up has =
     let Q : Verdict → Type 0 = λ v. PostsUnless (judged s v) in
@@ -220,7 +223,7 @@ post_verdict found s worker part unit up has =
     (subst (λ o. Q (elim o [ None ↦ Refuses refusal.NoOrder | Some key ↦ with_room s (posting part s worker key (found.part part key)) ])) (sym has)
     (by_room Q s (posting part s worker unit (found.part part unit)) refl (posted_done may_refuse_post part unit (found.part part unit))))
 
-post_ended : (o : DeviceOutcome) (s : State) (worker part : ℕ) (unit : UnitKey) → s.condition ≡ condition.Up
+post_ended : (o : DeviceOutcome) (s : State) (worker : ℕ) (part : Part) (unit : UnitKey) → s.condition ≡ condition.Up
     → order_for part s.stored s.orders worker ≡ Some unit → Happens o s (OfWorker worker (Posts part)) → PostsUnless (ended o s (OfWorker worker (Posts part)))
 post_ended o s worker part unit up has may =
     let call = OfWorker worker (Posts part) in
@@ -234,14 +237,14 @@ post_ended o s worker part unit up has may =
       | NotRemade fault ↦ λ h. absurd (never h.1)
     ] may.0
 
-pub post_told : (o : DeviceOutcome) (s : State) (line : ℕ) (c : Command) (worker part : ℕ) (unit : UnitKey) → s.condition ≡ condition.Up
+pub post_told : (o : DeviceOutcome) (s : State) (line : ℕ) (c : Command) (worker : ℕ) (part : Part) (unit : UnitKey) → s.condition ≡ condition.Up
     → order_for part s.stored s.orders worker ≡ Some unit → call_of c ≡ OfWorker worker (Posts part) → IsPossible o s c → PostsUnless (step o s line c)
 post_told o s line c worker part unit up has is possible =
     let may : Happens o s (OfWorker worker (Posts part)) = subst (Happens o s) is (possible.event, possible.lost) in
     let h : PostsUnless (served o s c) = subst (λ x. PostsUnless (ended o s x)) (sym is) (post_ended o s worker part unit up has may) in
     by_noting PostsUnless line c (takes_flight o) (served o s c) h h
 
-pub post_answered : (s : State) (m : Made) (worker part : ℕ) (unit : UnitKey) → s.condition ≡ condition.Up
+pub post_answered : (s : State) (m : Made) (worker : ℕ) (part : Part) (unit : UnitKey) → s.condition ≡ condition.Up
     → order_for part s.stored s.orders worker ≡ Some unit → call_of m.call.command ≡ OfWorker worker (Posts part)
     → IsModelAnswer s m → is_done_unless may_refuse_post m.call.reply ≡ true
 post_answered s m worker part unit up has is answer =

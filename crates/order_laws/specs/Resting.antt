@@ -14,25 +14,27 @@ use Rattle.hall_model.specs.Recall.{Made, calls_of, state_after}
 use Rattle.hall_model.specs.State.{State}
 use Rattle.ledger_steps.specs.Steps.{waiting_for}
 use Rattle.order_laws.specs.Behind.{NoneHasOrder, is_up, order_after, up_after}
+use Rattle.ledger_steps.specs.declared.part.Part.TheVariants.{V1, V2}
+use Rattle.ledger_steps.specs.declared.part.Part.{Part}
 
 -- no unit waits for its V1 part, nor for its V2 part
 abbrev pub NoneWaits : State → Type 0
-NoneWaits s = (unit : UnitKey) → (waits_for 1 s.stored unit || waits_for 2 s.stored unit) ≡ false
+NoneWaits s = (unit : UnitKey) → (waits_for V1 s.stored unit || waits_for V2 s.stored unit) ≡ false
 
 -- no worker has an order, and there is none to take
 pub record AllRest (s : State) : Type 0 where
   pub free : NoneHasOrder s
-  pub first : first_unclaimed s.orders (waiting_for 1 s.stored) ≡ None
-  pub second : first_unclaimed s.orders (waiting_for 2 s.stored) ≡ None
+  pub first : first_unclaimed s.orders (waiting_for V1 s.stored) ≡ None
+  pub second : first_unclaimed s.orders (waiting_for V2 s.stored) ≡ None
 
 -- ---- orders to take
 
 -- each unit that waits for this part is one that some worker has an order for
-abbrev pub AreClaimed : ℕ → State → Type 0
+abbrev pub AreClaimed : Part → State → Type 0
 AreClaimed part s = (unit : UnitKey) → waits_for part s.stored unit ≡ true → is_claimed s.orders unit ≡ true
 
 -- the worker has no order, there is none of this part to take, and nothing changes
-pub record FindsNone (s t : State) (worker part : ℕ) : Type 0 where
+pub record FindsNone (s t : State) (worker : ℕ) (part : Part) : Type 0 where
   pub free : order_of s.orders worker ≡ None
   pub none : first_unclaimed s.orders (waiting_for part s.stored) ≡ None
   pub same : t ≡ s
@@ -90,7 +92,7 @@ GoBeside worker calls = list_all (goes_beside worker) calls ≡ true
 -- the worker calls again or the server is up no more.
 abbrev pub OrdersStand : State → List Made → Type 0
 OrdersStand first made =
-    (earlier between later : List Made) (m : Made) (worker part : ℕ) (unit : UnitKey)
+    (earlier between later : List Made) (m : Made) (worker : ℕ) (part : Part) (unit : UnitKey)
     → made ≡ earlier ++ m ∷ (between ++ later) → worker < 256 → up_after (calls_of earlier) ≡ true
     → call_of m.call.command ≡ OfWorker worker (Takes part) → m.call.reply ≡ reply.Unit unit
     → GoBeside worker (calls_of between)
@@ -103,9 +105,9 @@ OrdersStand first made =
 -- there is no V2 order to take, and no worker has an order.
 pub record AllRestBehind (first : State) (earlier later : List Made) : Type 0 where
   pub first_none : first_unclaimed (state_after first earlier).orders
-      (waiting_for 1 (state_after first earlier).stored) ≡ None
+      (waiting_for V1 (state_after first earlier).stored) ≡ None
   pub offered : NoneOffers (calls_of later)
   pub second_none :
       first_unclaimed (state_after first (earlier ++ later)).orders
-      (waiting_for 2 (state_after first (earlier ++ later)).stored) ≡ None
+      (waiting_for V2 (state_after first (earlier ++ later)).stored) ≡ None
   pub free : (worker : ℕ) → worker < 256 → order_after worker (calls_of (earlier ++ later)) ≡ None

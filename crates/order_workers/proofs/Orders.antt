@@ -3,12 +3,13 @@ use Rattle.std.proofs.Common.{◌≡◌, ℕ, Bool, true, false, List, [], ◌�
 use Rattle.hall_model.specs.declared.command.Command.{Command}
 use Rattle.hall_model.specs.declared.command.Command.TheVariants as command
 use Rattle.order_workers.specs.Orders.{Made, made, Leads, Stays, Then, Goes, Begins, Does, Turns, Untaken, Drops, LastDone}
-use Rattle.order_workers.specs.Orders.{DidOrder, DidTaken, DidWork, is_idle, is_order, is_refused, other, post_of, take_of}
+use Rattle.hall_model.specs.Calls.{post_of, take_of}
+use Rattle.order_workers.specs.Orders.{DidOrder, DidTaken, DidWork, is_idle, is_order, is_refused, other}
 use Rattle.order_workers.specs.declared.desk.Look.{Look}
 use Rattle.order_workers.specs.declared.worker.Order.{Order}
 use Rattle.order_workers.specs.declared.worker.Order.TheVariants.{Done, Idle, Refused}
-use Rattle.order_workers.specs.declared.worker.Part.{Part}
-use Rattle.order_workers.specs.declared.worker.Part.TheVariants.{V1, V2}
+use Rattle.ledger_steps.specs.declared.part.Part.{Part}
+use Rattle.ledger_steps.specs.declared.part.Part.TheVariants.{V1, V2}
 
 pub apart : (b : Bool) → b ≡ true → b ≡ false → ⊥
 apart true h k = cc

@@ -8,18 +8,11 @@ use Rattle.hall_model.specs.declared.command.Reply.TheVariants as reply
 use Rattle.order_workers.specs.declared.desk.Look.{Look}
 use Rattle.order_workers.specs.declared.worker.Order.{Order}
 use Rattle.order_workers.specs.declared.worker.Order.TheVariants.{Done, Idle, Refused}
-use Rattle.order_workers.specs.declared.worker.Part.{Part}
-use Rattle.order_workers.specs.declared.worker.Part.TheVariants.{V1, V2}
+use Rattle.ledger_steps.specs.declared.part.Part.{Part}
+use Rattle.ledger_steps.specs.declared.part.Part.TheVariants.{V1, V2}
+use Rattle.hall_model.specs.Calls.{post_of, take_of}
 
 -- ---- calls
-
-abbrev pub take_of : Part → ℕ → Command
-take_of V1 w = command.Take1 w
-take_of V2 w = command.Take2 w
-
-abbrev pub post_of : Part → ℕ → Command
-post_of V1 w = command.Do1 w
-post_of V2 w = command.Do2 w
 
 -- the calls that a worker of this number makes
 abbrev pub is_of_worker : ℕ → Command → Bool

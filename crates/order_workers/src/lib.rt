@@ -7,4 +7,4 @@ mod worker;
 
 pub use desk::{Look, OrderDesk};
 pub use rest::{NoRest, Rest};
-pub use worker::{Part, do_orders};
+pub use worker::do_orders;

@@ -1,19 +1,14 @@
 ghost use Rattle.std.specs.Prelude.{◌≡◌, true};
-ghost use Rattle.order_workers.specs.Orders.{DidOrder, DidTaken, DidWork, is_of_worker, is_idle, is_order, is_refused, post_of, take_of};
+ghost use Rattle.hall_model.specs.Calls.{post_of, take_of};
+ghost use Rattle.order_workers.specs.Orders.{DidOrder, DidTaken, DidWork, is_of_worker, is_idle, is_order, is_refused};
 
 use crate::desk::OrderDesk;
 use crate::rest::Rest;
 use enq_base::Refusal;
 use hall_model::{Command, Reply};
+use ledger_steps::Part;
 use std::sync::Wait;
 use std::sync::atomic::{AtomicU64, Ordering};
-
-/// The parts of a unit.
-#[derive(Clone, Copy, Debug, PartialEq, Eq)]
-pub enum Part {
-    V1,
-    V2,
-}
 
 /// What came of one order.
 #[derive(Clone, Copy, Debug, PartialEq, Eq)]

@@ -38,6 +38,8 @@ use Rattle.number_ranges.specs.declared.interval.Interval.{Interval}
 use Rattle.script_actors.specs.Actors.{is_full}
 use Rattle.update_records.specs.Ledger.{Ledger}
 use Rattle.update_records.specs.Marks.{status_of}
+use Rattle.ledger_steps.specs.declared.part.Part.{Part}
+use Rattle.ledger_steps.specs.Parts.{is_first}
 
 -- an answer for another reason than a full history, or none
 abbrev pub IsOther : Reply → Type 0
@@ -98,11 +100,11 @@ ask_other fault.Count = refl
 ask_other fault.Lost = refl
 ask_other fault.NoMemory = refl
 
-posted_other : (part : ℕ) (unit : UnitKey) (o : Outcome) → IsOther (posted_reply part unit o)
+posted_other : (part : Part) (unit : UnitKey) (o : Outcome) → IsOther (posted_reply part unit o)
 posted_other part unit outcome.Done =
-    elim (nat_eq part 1) as (λ b. IsOther (if b then reply.Posted unit else reply.Closed unit)) [ true ↦ refl | false ↦ refl ]
+    elim (is_first part) as (λ b. IsOther (if b then reply.Posted unit else reply.Closed unit)) [ true ↦ refl | false ↦ refl ]
 posted_other part unit (outcome.Refused index reason) =
-    elim (nat_eq part 1) as (λ b. IsOther (if b then reply.Bad unit index reason else reply.Bad2 unit index reason)) [
+    elim (is_first part) as (λ b. IsOther (if b then reply.Bad unit index reason else reply.Bad2 unit index reason)) [
       | true ↦ refl
       | false ↦ refl
     ]
@@ -174,14 +176,14 @@ module _ (Q : Verdict → Type 0) (each : OfOther Q) where
   of_taking s worker None = each.refuses _ refl
   of_taking s worker (Some unit) = each.leaves _ _ refl
 
-  of_take : (s : State) (worker part : ℕ) (o : Option UnitKey) → Q (elim o [
+  of_take : (s : State) (worker : ℕ) (part : Part) (o : Option UnitKey) → Q (elim o [
     | Some unit ↦ Refuses (refusal.WorkerBusy unit)
     | None ↦ taking s worker (first_unclaimed s.orders (waiting_for part s.stored))
   ])
   of_take s worker part None = of_taking s worker (first_unclaimed s.orders (waiting_for part s.stored))
   of_take s worker part (Some unit) = each.refuses _ refl
 
-  of_post : (found : Found) (s : State) (worker part : ℕ) (o : Option UnitKey) → Q (elim o [
+  of_post : (found : Found) (s : State) (worker : ℕ) (part : Part) (o : Option UnitKey) → Q (elim o [
     | None ↦ Refuses refusal.NoOrder
     | Some unit ↦ with_room s (posting part s worker unit (found.part part unit))
   ])

@@ -1,6 +1,6 @@
 -- A post isn't answered that there is no unit to take.
 use Rattle.std.proofs.Common.{◌≡◌, ℕ, Bool, true, false, refl, subst, sym}
-use Rattle.std.specs.Prelude.{◌&&◌, if◌then◌else◌, nat_eq, Option, Some, None}
+use Rattle.std.specs.Prelude.{◌&&◌, if◌then◌else◌, Option, Some, None}
 use Rattle.enq_base.specs.declared.condition.Condition.{Condition}
 use Rattle.enq_base.specs.declared.condition.Condition.TheVariants as condition
 use Rattle.enq_base.specs.declared.owner.UnitKey.{UnitKey}
@@ -21,6 +21,8 @@ use Rattle.ledger_steps.specs.declared.step.Outcome.{Outcome}
 use Rattle.ledger_steps.specs.declared.step.Outcome.TheVariants as outcome
 use Rattle.order_laws.specs.Behind.{is_post}
 use Rattle.order_workers.specs.Orders.{is_idle}
+use Rattle.ledger_steps.specs.declared.part.Part.{Part}
+use Rattle.ledger_steps.specs.Parts.{is_first}
 
 abbrev NotIdle : Served → Type 0
 NotIdle r = is_idle r.reply ≡ false
@@ -41,31 +43,31 @@ module _ (s : State) where
   else_not None b h k = k
   else_not (Some r) b h k = h
 
-  down_not : (k : Condition) (worker part : ℕ) → IfRefused (down_refusal k (OfWorker worker (Posts part)))
+  down_not : (k : Condition) (worker : ℕ) (part : Part) → IfRefused (down_refusal k (OfWorker worker (Posts part)))
   down_not condition.Up worker part = tt
   down_not condition.NoServer worker part = tt
   down_not (condition.Doubt n) worker part = refl
 
-  server_not : (k : Condition) (worker part : ℕ) → IfRefused (server_refusal k (OfWorker worker (Posts part)))
+  server_not : (k : Condition) (worker : ℕ) (part : Part) → IfRefused (server_refusal k (OfWorker worker (Posts part)))
   server_not condition.Up worker part = tt
   server_not condition.NoServer worker part =
-      elim (nat_eq part 1) as (λ b. IfRefused (if b then Some refusal.SystemFailure else None)) [ true ↦ refl | false ↦ tt ]
+      elim (is_first part) as (λ b. IfRefused (if b then Some refusal.SystemFailure else None)) [ true ↦ refl | false ↦ tt ]
   server_not (condition.Doubt n) worker part = tt
 
   full_not : (b : Bool) (o : Option Refusal) → IfRefused o → IfRefused (if b then Some refusal.LogFull else o)
   full_not true o h = refl
   full_not false o h = h
 
-  posted_not : (part : ℕ) (unit : UnitKey) (o : Outcome) → is_idle (posted_reply part unit o) ≡ false
+  posted_not : (part : Part) (unit : UnitKey) (o : Outcome) → is_idle (posted_reply part unit o) ≡ false
   posted_not part unit outcome.Done =
-      elim (nat_eq part 1) as (λ b. is_idle (if b then reply.Posted unit else reply.Closed unit) ≡ false) [ true ↦ refl | false ↦ refl ]
+      elim (is_first part) as (λ b. is_idle (if b then reply.Posted unit else reply.Closed unit) ≡ false) [ true ↦ refl | false ↦ refl ]
   posted_not part unit (outcome.Refused index reason) =
-      elim (nat_eq part 1) as (λ b. is_idle (if b then reply.Bad unit index reason else reply.Bad2 unit index reason) ≡ false) [
+      elim (is_first part) as (λ b. is_idle (if b then reply.Bad unit index reason else reply.Bad2 unit index reason) ≡ false) [
         | true ↦ refl
         | false ↦ refl
       ]
 
-  own_not : (found : Found) (worker part : ℕ) → Judged (worker_call found s worker (Posts part))
+  own_not : (found : Found) (worker : ℕ) (part : Part) → Judged (worker_call found s worker (Posts part))
   own_not found worker part =
       elim (order_for part s.stored s.orders worker)
       as (λ o. Judged (elim o [ None ↦ Refuses refusal.NoOrder | Some unit ↦ with_room s (posting part s worker unit (found.part part unit)) ])) [
@@ -73,7 +75,7 @@ module _ (s : State) where
         | Some unit ↦ by_room Judged s (posting part s worker unit (found.part part unit)) refl (posted_not part unit (found.part part unit))
       ]
 
-  verdict_not : (found : Found) (worker part : ℕ) → Judged (call_verdict found s (OfWorker worker (Posts part)))
+  verdict_not : (found : Found) (worker : ℕ) (part : Part) → Judged (call_verdict found s (OfWorker worker (Posts part)))
   unfolding call_verdict
   verdict_not found worker part =
       let call = OfWorker worker (Posts part) in
@@ -93,7 +95,7 @@ fault_not (FindsBadStore table row) = refl
 abbrev ended : DeviceOutcome → State → Call → Served
 ended o s call = losing o.lost (ends_in o.event o.reading s call (call_verdict (found_by o.reading s) s call))
 
-ended_not : (o : DeviceOutcome) (s : State) (worker part : ℕ) → NotIdle (ended o s (OfWorker worker (Posts part)))
+ended_not : (o : DeviceOutcome) (s : State) (worker : ℕ) (part : Part) → NotIdle (ended o s (OfWorker worker (Posts part)))
 ended_not o s worker part =
     let call = OfWorker worker (Posts part) in
     elim o.event as (λ e. NotIdle (ends_in e o.reading s call (call_verdict (found_by o.reading s) s call))) [

@@ -1,5 +1,5 @@
 -- Parts that are applied to what was read.
-use Rattle.std.proofs.Common.{◌≡◌, ℕ, ◌+◌, ◌<◌, Bool, true, false, nat_eq, ◌||◌, ◌&&◌, List, [], ◌∷◌, ◌++◌, map, length, take, get_or, Option, Some, None, IfSome, IsTrue, IsOk, if◌then◌else◌, refl, sym, ap, subst, ◌∙◌}
+use Rattle.std.proofs.Common.{◌≡◌, ℕ, ◌+◌, ◌<◌, Bool, true, false, ◌||◌, ◌&&◌, List, [], ◌∷◌, ◌++◌, map, length, take, get_or, Option, Some, None, IfSome, IsTrue, IsOk, if◌then◌else◌, refl, sym, ap, subst, ◌∙◌}
 use Rattle.std.specs.FinMap.{empty}
 use Rattle.std.specs.Option.{option_map_or}
 use Rattle.std.specs.List.{AllByRecursion, list_any, IsDistinct}
@@ -28,6 +28,8 @@ use Rattle.ledger_steps.specs.Steps.{IsOutcome, post_kind}
 use Rattle.ledger_steps.specs.declared.step.Outcome.{Outcome}
 use Rattle.ledger_steps.specs.declared.step.Outcome.TheVariants.{Done, Refused}
 use Rattle.posting.proofs.lemmas.HeldRows.{holds}
+use Rattle.ledger_steps.specs.declared.part.Part.{Part}
+use Rattle.ledger_steps.specs.Parts.{is_first}
 
 and_first : (a b : Bool) → (a && b) ≡ true → a ≡ true
 and_first true b h = refl
@@ -165,16 +167,16 @@ note_either : (first : Bool) (ledger : Ledger) (key : UnitKey) (outcome : Outcom
 note_either true ledger key outcome spots h = note_first ledger key outcome spots h
 note_either false ledger key outcome spots h = note_second ledger key outcome spots h
 
-post_note : (held : Option Rows) (part : ℕ) (ledger : Ledger) (key : UnitKey) (outcome : Outcome) (spots : List Spot)
+post_note : (held : Option Rows) (part : Part) (ledger : Ledger) (key : UnitKey) (outcome : Outcome) (spots : List Spot)
     → IfSome held (λ rows. StandFor rows ledger)
     → IfSome held (λ rows. (tables : Tables) → HoldsTables rows tables → IsPost (effects_of part ledger.units key) tables outcome spots)
     → IfSome held (λ _. IsNote ledger (next_mark ledger key (kind_for part outcome)) spots)
 post_note None part ledger key outcome spots h post = tt
-post_note (Some rows) part ledger key outcome spots h post = note_either (nat_eq part 1) ledger key outcome spots
+post_note (Some rows) part ledger key outcome spots h post = note_either (is_first part) ledger key outcome spots
     (post (tables_of ledger.units ledger.marks) (holds rows ledger h))
 
 -- the same of what the code has at hand
-pub post_noted : (held other : Option Rows) (part : ℕ) (ledger : Ledger) (key : UnitKey) (outcome : Outcome) (spots slice : List Spot) (kind : MarkKind)
+pub post_noted : (held other : Option Rows) (part : Part) (ledger : Ledger) (key : UnitKey) (outcome : Outcome) (spots slice : List Spot) (kind : MarkKind)
     → other ≡ held → kind ≡ kind_for part outcome → slice ≡ spots → IfSome held (λ rows. StandFor rows ledger)
     → IfSome held (λ rows. (tables : Tables) → HoldsTables rows tables → IsPost (effects_of part ledger.units key) tables outcome spots)
     → IfSome other (λ _. IsNote ledger (next_mark ledger key kind) slice)
@@ -185,15 +187,15 @@ post_noted held other part ledger key outcome spots slice kind told is same h po
     (post_note held part ledger key outcome spots h post)))
 
 -- the effects of a unit that is there
-pub part_is : (part : ℕ) (units : List UnitOfWork) (key : UnitKey) (unit : UnitOfWork) → unit_at units key ≡ Some unit
-    → (if nat_eq part 1 then unit.parts.v1 else unit.parts.v2) ≡ effects_of part units key
+pub part_is : (part : Part) (units : List UnitOfWork) (key : UnitKey) (unit : UnitOfWork) → unit_at units key ≡ Some unit
+    → (if is_first part then unit.parts.v1 else unit.parts.v2) ≡ effects_of part units key
 part_is part units key unit there =
     let first = ap (λ o. option_map_or (λ (x : UnitOfWork). x.parts.v1) o []) (sym there) in
     let second = ap (λ o. option_map_or (λ (x : UnitOfWork). x.parts.v2) o []) (sym there) in
-    elim (nat_eq part 1) as (λ b. (if b then unit.parts.v1 else unit.parts.v2) ≡ (if b then v1_of units key else v2_of units key))
+    elim (is_first part) as (λ b. (if b then unit.parts.v1 else unit.parts.v2) ≡ (if b then v1_of units key else v2_of units key))
     [ true ↦ first | false ↦ second ]
 
-pub post_outcome : (held : Option Rows) (part : ℕ) (ledger : Ledger) (key : UnitKey) (outcome : Outcome) (spots : List Spot)
+pub post_outcome : (held : Option Rows) (part : Part) (ledger : Ledger) (key : UnitKey) (outcome : Outcome) (spots : List Spot)
     → IfSome held (λ rows. StandFor rows ledger)
     → IfSome held (λ rows. (tables : Tables) → HoldsTables rows tables → IsPost (effects_of part ledger.units key) tables outcome spots)
     → IfSome held (λ _. IsOutcome (applied (effects_of part ledger.units key) (tables_of ledger.units ledger.marks)) outcome)

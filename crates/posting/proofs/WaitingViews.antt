@@ -8,6 +8,7 @@ use Rattle.lock_entry.specs.declared.entry.UnitLocks.{UnitLocks}
 use Rattle.update_records.specs.Ledger.{Ledger}
 use Rattle.ledger_steps.specs.Steps.{at_place, waiting_for}
 use Rattle.ledger_steps.specs.Views.{locks_of}
+use Rattle.ledger_steps.specs.declared.part.Part.TheVariants.{V1}
 
 taken : {X Y : Type 0} (f : X → Y) (xs : List X) (i : ℕ) (x : X) → slice_get xs i ≡ Some x → map f (take (suc i) xs) ≡ map f (take i xs) ++ f x ∷ []
 taken f [] i x h = cc
@@ -27,10 +28,10 @@ next i = omega arith
 
 -- one unit more
 pub open_more : (ledger : Ledger) (i : ℕ) (unit : UnitKey) (locks : UnitLocks) (before now : List UnitLocks)
-    → at_place (i + 1) (waiting_for 1 ledger) ≡ Some unit → locks ≡ locks_of ledger unit
-    → before ≡ map (locks_of ledger) (take i (waiting_for 1 ledger)) → now ≡ before ++ locks ∷ []
-    → now ≡ map (locks_of ledger) (take (i + 1) (waiting_for 1 ledger))
+    → at_place (i + 1) (waiting_for V1 ledger) ≡ Some unit → locks ≡ locks_of ledger unit
+    → before ≡ map (locks_of ledger) (take i (waiting_for V1 ledger)) → now ≡ before ++ locks ∷ []
+    → now ≡ map (locks_of ledger) (take (i + 1) (waiting_for V1 ledger))
 open_more ledger i unit locks before now at is so_far pushed =
-    let units = waiting_for 1 ledger in
+    let units = waiting_for V1 ledger in
     pushed ∙ ap (λ l. before ++ l ∷ []) is ∙ ap (λ b. b ++ locks_of ledger unit ∷ []) so_far
     ∙ sym (taken (locks_of ledger) units i unit (sym (at_next units i) ∙ at)) ∙ ap (λ n. map (locks_of ledger) (take n units)) (next i)

@@ -1,4 +1,4 @@
-ghost use Rattle.std.specs.Prelude.{◌≡◌, ◌≤◌, ◌⊎◌, List, [], length, nat_eq, true, false, if◌then◌else◌, Option, Some, None, IfSome, IfOk, IfErr, OnOk, OnErr, IsTrue, is_some, ◌∷◌};
+ghost use Rattle.std.specs.Prelude.{◌≡◌, ◌≤◌, ◌⊎◌, List, [], length, true, false, if◌then◌else◌, Option, Some, None, IfSome, IfOk, IfErr, OnOk, OnErr, IsTrue, is_some, ◌∷◌};
 ghost use Rattle.std.specs.FinMap.{get};
 ghost use Rattle.std.specs.Option.{option_copied, option_map};
 ghost use Rattle.update_records.specs.Business.{numbers_of, tables_of};
@@ -16,6 +16,7 @@ ghost use Rattle.update_records.specs.Marks.{status_of, v1_of, v2_of};
 ghost use Rattle.posting.specs.Opening.{CountsFault, OnBad, OnRefused, IsRaiseFault};
 ghost use Rattle.ledger_steps.specs.Starts.{raised, IsRaised};
 ghost use Rattle.posting.specs.Numbers.{AreNumbersRight};
+ghost use Rattle.ledger_steps.specs.Parts.{is_first, part_at};
 ghost use Rattle.ledger_steps.specs.Posts.{HasDistinctRows, HoldsTables, IsNote, IsPost, MayCome, WaitsFor, effects_of, entries_of, kind_for, post2_kind};
 ghost use Rattle.posting.specs.Reopening.{HasStood, IsOpeningFault, MayBeLeftBy, MayBeOpeningFault};
 ghost use Rattle.store_reading.specs.Good.{IsSound, ledger_of};
@@ -37,7 +38,7 @@ use enq_base::{
     Effect, Failed, Items, Key, Name, NoMemory, Num, Parts, Reason, Status, Text, UnitKey,
 };
 use keeper_api::{Change, KeepFault, Keeper};
-use ledger_steps::{Outcome, Step};
+use ledger_steps::{Outcome, Part, Step};
 use lock_entry::{Entry, UnitLocks};
 use module_effects::Spot;
 use std::alloc::Global;
@@ -129,13 +130,12 @@ impl<K: Keeper> Books<K> {
         ensures cause { IfErr result
             (λ fault. CountsFault fault (K.faults self.old.keeper) (K.faults self.new.keeper)) }
     {
-        match open_register(alloc, &mut self.keeper) {
-            Ok(register) => {
-                self.register = register;
-                Ok(())
-            }
-            Err(fault) => Err(fault),
-        }
+        let register = match open_register(alloc, &mut self.keeper) {
+            Ok(register) => register,
+            Err(fault) => return Err(fault),
+        };
+        self.register = register;
+        Ok(())
     }
 
     /// Reads the store anew after a commit that failed, and tells what it has: the ledger as it was, or the one with
@@ -215,18 +215,18 @@ impl<K: Keeper> Books<K> {
     /// How many units wait for part 1, V1, or for part 2, V2.
     pub fn waiting(&self, part: u8) -> u32
         requires { (part ≡ 1) ⊎ (part ≡ 2) }
-        ensures { result ≡ length (waiting_for part self.now.ledger) }
+        ensures { result ≡ length (waiting_for (part_at part) self.now.ledger) }
     {
-        self.register.waiting(part)
+        self.register.waiting(Part::at(part))
     }
 
     /// The unit at a place, counted from 1, of those that wait for a part: the one whose last mark is oldest first, so
     /// that one which may be tried again comes last.
     pub fn waiting_at(&self, part: u8, place: u32) -> Option<UnitKey>
         requires { (part ≡ 1) ⊎ (part ≡ 2) }
-        ensures { result ≡ at_place place (waiting_for part self.now.ledger) }
+        ensures { result ≡ at_place place (waiting_for (part_at part) self.now.ledger) }
     {
-        self.register.waiting_at(part, place)
+        self.register.waiting_at(Part::at(part), place)
     }
 
     /// The text of a business row. After `Failed` only `into_keeper` is allowed.
@@ -406,7 +406,7 @@ impl<K: Keeper> Books<K> {
         ensures crash { IsWithin (K.may_leave self.new.keeper) (K.may_leave self.old.keeper) }
         ensures cause { HasFaultCause (K.faults self.old.keeper) (K.faults self.new.keeper) result }
     {
-        self.prepare_post(alloc, unit, 1)
+        self.prepare_post(alloc, unit, Part::V1)
     }
 
     /// The same for the V2 part of a unit whose V1 part is posted.
@@ -433,7 +433,7 @@ impl<K: Keeper> Books<K> {
         ensures crash { IsWithin (K.may_leave self.new.keeper) (K.may_leave self.old.keeper) }
         ensures cause { HasFaultCause (K.faults self.old.keeper) (K.faults self.new.keeper) result }
     {
-        self.prepare_post(alloc, unit, 2)
+        self.prepare_post(alloc, unit, Part::V2)
     }
 
     /// Makes ready to let a refused part of a unit be tried again, or to cancel a unit. Nothing changes in the store.
@@ -490,7 +490,7 @@ impl<K: Keeper> Books<K> {
         &mut self,
         alloc: Global,
         unit: &UnitKey,
-        part: u8,
+        part: Part,
     ) -> Result<(Prepared, Outcome), KeepFault>
         requires usable { IsUsable K.held K.is_open self.old }
         requires marks { HasMarksLeft self.old.ledger }
@@ -510,7 +510,7 @@ impl<K: Keeper> Books<K> {
         ensures cause { HasFaultCause (K.faults self.old.keeper) (K.faults self.new.keeper) result }
     {
         let (spots, outcome) = post_part(alloc, &self.register, &mut self.keeper, unit, part)?;
-        let kind = kind_for(part, outcome);
+        let kind = part.kind_for(outcome);
         let prepared = self.prepare_note(alloc, spots.as_slice(), unit, kind)?;
         Ok((prepared, outcome))
     }
@@ -628,7 +628,7 @@ fn post_part<K: Keeper>(
     register: &Register,
     keeper: &mut K,
     unit: &UnitKey,
-    part: u8,
+    part: Part,
 ) -> Result<(Vec<Spot>, Outcome), KeepFault>
     requires opened { K.is_open keeper.old }
     requires waits { WaitsFor part register.now.ledger unit.now }
@@ -647,25 +647,12 @@ fn post_part<K: Keeper>(
     apply_to_store(alloc, keeper, effects_in(&found.parts, part))
 }
 
-fn effects_in(parts: &Parts, part: u8) -> &[Effect]
-    ensures { result.now ≡ (if nat_eq part 1 then parts.now.v1 else parts.now.v2) }
+fn effects_in(parts: &Parts, part: Part) -> &[Effect]
+    ensures { result.now ≡ (if is_first part then parts.now.v1 else parts.now.v2) }
 {
-    if part == 1 {
-        parts.v1.as_slice()
-    } else {
-        parts.v2.as_slice()
-    }
-}
-
-/// The mark of a part that came to this.
-fn kind_for(part: u8, outcome: Outcome) -> MarkKind
-    ensures { result ≡ kind_for part outcome }
-{
-    match outcome {
-        Outcome::Done if part == 1 => MarkKind::V1,
-        Outcome::Done => MarkKind::V2,
-        Outcome::Refused { index, reason } if part == 1 => MarkKind::Bad1 { index, reason },
-        Outcome::Refused { index, reason } => MarkKind::Bad2 { index, reason },
+    match part {
+        Part::V1 => parts.v1.as_slice(),
+        Part::V2 => parts.v2.as_slice(),
     }
 }
 

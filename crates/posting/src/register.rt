@@ -1,4 +1,4 @@
-ghost use Rattle.std.specs.Prelude.{◌≡◌, ◌⊎◌, ◌≤◌, ◌<◌, ◌+◌, ◌++◌, ◌∷◌, [], ℕ, length, map, Some, None, IfOk, IfSome, IfNone, OnOk, vec_len, vec_capacity, slice_set, if◌then◌else◌};
+ghost use Rattle.std.specs.Prelude.{◌≡◌, ◌≤◌, ◌<◌, ◌+◌, ◌++◌, ◌∷◌, [], ℕ, length, map, Some, None, IfOk, IfSome, IfNone, OnOk, vec_len, vec_capacity, slice_set, if◌then◌else◌};
 ghost use Rattle.std.specs.HashMap.{spare};
 ghost use Rattle.std.specs.FinMap.{empty, get};
 ghost use Rattle.std.specs.List.{All};
@@ -24,7 +24,7 @@ ghost use Rattle.update_records.specs.RecordRows.{Level};
 use crate::interval_list::{IntervalList, put_all};
 use crate::restoring::{Followed, count_numbers, follow_all, interval_list};
 use enq_base::{Items, Name, NoMemory, Num, Reason, Status, UnitId, UnitKey, id_of};
-use ledger_steps::Step;
+use ledger_steps::{Part, Step};
 use std::alloc::Global;
 use std::collections::HashMap;
 use std::marker::Model;
@@ -178,26 +178,22 @@ impl Register {
     }
 
     /// Those that wait for a part.
-    fn queue_for(&self, part: u8) -> &Turns
-        requires { (part ≡ 1) ⊎ (part ≡ 2) }
+    fn queue_for(&self, part: Part) -> &Turns
         ensures { waiting_in result.now.turns ≡ waiting_for part self.now.ledger }
     {
-        if part == 1 {
-            &self.v1_queue
-        } else {
-            &self.v2_queue
+        match part {
+            Part::V1 => &self.v1_queue,
+            Part::V2 => &self.v2_queue,
         }
     }
 
-    pub fn waiting(&self, part: u8) -> u32
-        requires { (part ≡ 1) ⊎ (part ≡ 2) }
+    pub fn waiting(&self, part: Part) -> u32
         ensures { result ≡ length (waiting_for part self.now.ledger) }
     {
         self.queue_for(part).len()
     }
 
-    pub fn waiting_at(&self, part: u8, place: u32) -> Option<UnitKey>
-        requires { (part ≡ 1) ⊎ (part ≡ 2) }
+    pub fn waiting_at(&self, part: Part, place: u32) -> Option<UnitKey>
         ensures { result ≡ at_place place (waiting_for part self.now.ledger) }
     {
         if place == 0 {

@@ -6,6 +6,7 @@ ghost use Rattle.ledger_steps.specs.Views.{locks_of, open_locks, view_of, views_
 
 use crate::register::Register;
 use enq_base::{Items, NoMemory, Status, UnitKey};
+use ledger_steps::Part;
 use lock_entry::{Entry, UnitLocks};
 use std::alloc::Global;
 use update_records::{Unit, UnitView};
@@ -74,8 +75,8 @@ pub fn open_units(alloc: Global, register: &Register) -> Result<Vec<UnitLocks>, 
     ensures { IfOk result (λ locks. locks.items ≡ open_locks register.now.ledger) }
 {
     let mut found = Vec::new(alloc);
-    for place in 0..register.waiting(1) {
-        let Some(unit) = register.waiting_at(1, place + 1) else {
+    for place in 0..register.waiting(Part::V1) {
+        let Some(unit) = register.waiting_at(Part::V1, place + 1) else {
             unreachable!();
         };
         found.push(locks_of(alloc, register, unit)?)?;

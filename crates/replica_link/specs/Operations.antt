@@ -22,9 +22,9 @@ after_op list (Turn owner table pattern) = turned list (is_at owner table patter
 after_op list (Handed unit) = handed_over list unit
 
 -- The replica's list: the operations, the first of them first, over the snapshot.
-abbrev pub replica : List Entry → List TableOp → List Entry
-replica snapshot [] = snapshot
-replica snapshot (op ∷ ops) = replica (after_op snapshot op) ops
+abbrev pub after_ops : List Entry → List TableOp → List Entry
+after_ops snapshot [] = snapshot
+after_ops snapshot (op ∷ ops) = after_ops (after_op snapshot op) ops
 
 -- the operation puts an entry whose name doesn't stand
 abbrev pub IsNew : List Entry → TableOp → Type 0

@@ -10,7 +10,7 @@ use Rattle.enq_base.specs.declared.condition.Condition.TheVariants as condition
 use Rattle.enq_base.specs.declared.owner.UnitKey.{UnitKey}
 use Rattle.enq_base.specs.declared.refusal.Refusal.{Refusal}
 use Rattle.enq_base.specs.declared.refusal.Refusal.TheVariants as refusal
-use Rattle.hall_model.specs.Calls.{Call, LogsOn, OfSession, OfWorker, OfAdmin, Takes, call_of, who_calls}
+use Rattle.hall_model.specs.Calls.{Call, LogsOn, OfSession, OfWorker, OfAdmin, Takes, call_of, who_calls, post_of, take_of}
 use Rattle.hall_model.specs.History.{Served, is_unrecorded}
 use Rattle.hall_model.specs.Orders.{order_of}
 use Rattle.hall_model.specs.Recall.{IsModelAnswer, Made, calls_of, recalled, state_after}
@@ -31,17 +31,18 @@ use Rattle.order_laws.proofs.WorkerAnswers.{post_answered, post_full, take_step}
 use Rattle.order_laws.specs.Behind.{is_post, is_trouble, is_up, order_after, up_after, wants}
 use Rattle.order_laws.specs.Resting.{GoBeside}
 use Rattle.order_laws.specs.Resting.{is_by as is_of}
-use Rattle.order_workers.specs.Orders.{Ends, Goes, IsTaken, Stops, is_idle, is_order, is_refused, post_of, take_of}
+use Rattle.order_workers.specs.Orders.{Ends, Goes, IsTaken, Stops, is_idle, is_order, is_refused}
 use Rattle.order_workers.specs.Orders.{Drops, LastDone, Untaken}
 use Rattle.order_workers.specs.Orders.{IsIdle as FoundNone}
 use Rattle.order_workers.specs.Orders.{Made as MadeByWorker}
-use Rattle.order_workers.specs.declared.worker.Part.{Part}
+use Rattle.ledger_steps.specs.declared.part.Part.{Part}
 use Rattle.script_actors.specs.Actors.{is_full}
 use Rattle.script_actors.specs.Doers.{is_same}
 use Rattle.rest_laws.specs.Rest.{WentWell}
 use Rattle.rest_laws.proofs.Histories.{answers_all, told_up, well_up}
-use Rattle.rest_laws.proofs.LastCalls.{KeptLast, Last, NoneOf, Saw, flip_number, goes_free, never, number_of, post_is, seen_last, take_is}
+use Rattle.rest_laws.proofs.LastCalls.{KeptLast, Last, NoneOf, Saw, flip_number, goes_free, never, seen_last}
 use Rattle.rest_laws.proofs.Splits.{all_before, all_behind, headed, split}
+use Rattle.model_laws.proofs.PartOrders.{post_is, take_is}
 
 -- ---- where an entry stands
 
@@ -77,7 +78,7 @@ place_of made before entry after e =
 abbrev TakeGives : State → ℕ → Served → Type 0
 TakeGives s w r = order_of s.orders w ≡ None → (is_order r.reply || is_unrecorded r.reply) ≡ true
 
-take_gives : (s : State) (m : Made) (w part : ℕ) → s.condition ≡ condition.Up → call_of m.call.command ≡ OfWorker w (Takes part) → IsModelAnswer s m
+take_gives : (s : State) (m : Made) (w : ℕ) (part : Part) → s.condition ≡ condition.Up → call_of m.call.command ≡ OfWorker w (Takes part) → IsModelAnswer s m
     → order_of s.orders w ≡ None → (is_order m.call.reply || is_unrecorded m.call.reply) ≡ true
 take_gives s m w part up is answer free =
     subst (λ r. (is_order r || is_unrecorded r) ≡ true) answer.reply
@@ -185,10 +186,10 @@ module _ (first : State) (made : List Made) (w : ℕ) (well : WentWell first mad
       let none : order_of s.orders w ≡ None =
       orders_are_told first p.earlier w well.fresh before few ∙ ap (order_after w) p.first
       ∙ goes_free w done part goes h.before (theirs_to h.before (h.entry ∷ h.after) h.place) h.seen in
-      let is : call_of p.call.call.command ≡ OfWorker w (Takes (number_of part)) =
+      let is : call_of p.call.call.command ≡ OfWorker w (Takes part) =
       ap (λ (e : PastEntry). call_of e.command) p.here ∙ ap call_of (h.is.command ∙ at) ∙ take_is part w in
       let told : p.call.call.reply ≡ take.reply = ap (λ (e : PastEntry). e.reply) p.here ∙ h.is.reply in
-      let gives = take_gives s p.call w (number_of part) (well_up first made well p.earlier (p.call ∷ p.later) p.whole) is
+      let gives = take_gives s p.call w part (well_up first made well p.earlier (p.call ∷ p.later) p.whole) is
       (well.answers p.earlier p.later p.call p.whole) none in
       let gives_it : (is_order take.reply || is_unrecorded take.reply) ≡ true = subst (λ r. (is_order r || is_unrecorded r) ≡ true) told gives in
       never (sym (ap (λ b. b || is_unrecorded take.reply) off ∙ h.kept) ∙ gives_it)
@@ -228,12 +229,12 @@ module _ (first : State) (made : List Made) (w : ℕ) (well : WentWell first mad
         (whole ∙ ap (λ ms. earlier ++ one ∷ (ms ++ other ∷ later)) e ∙ ap (λ ms. earlier ++ one ∷ ms) (append_assoc a b (other ∷ later))
         ∙ sym (append_assoc earlier (one ∷ a) (b ++ other ∷ later)))))
         theirs_between others in
-        let has = orders_stand first made well.fresh well.answers earlier between (other ∷ later) one w (number_of part) unit.unit whole few
+        let has = orders_stand first made well.fresh well.answers earlier between (other ∷ later) one w part unit.unit whole few
         (told_up first made earlier (one ∷ (between ++ other ∷ later)) well whole)
         (ap call_of (is_take.command ∙ taken.0) ∙ take_is part w) (is_take.reply ∙ unit.is) beside in
         let there : made ≡ (earlier ++ one ∷ between) ++ other ∷ later = whole ∙ sym (append_assoc earlier (one ∷ between) (other ∷ later)) in
         let call = ap call_of (is_post_of.command ∙ at) ∙ post_is part w in
-        let done = post_answered (state_after first (earlier ++ one ∷ between)) other w (number_of part) unit.unit
+        let done = post_answered (state_after first (earlier ++ one ∷ between)) other w part unit.unit
         (up (earlier ++ one ∷ between) (other ∷ later) there) has call (well.answers (earlier ++ one ∷ between) later other there) in
         let why = denied post.reply off in
         let full = post_full other.call why.why (ap is_post call) done (is_post_of.reply ∙ why.is)

@@ -9,7 +9,7 @@ use Rattle.std.proofs.lemmas.List.Folds.{list_any-append}
 use Rattle.std.proofs.lemmas.List.Sums.{fold-append}
 use Rattle.enq_base.specs.declared.owner.UnitKey.{UnitKey}
 use Rattle.enq_base.specs.declared.refusal.Refusal.TheVariants as refusal
-use Rattle.hall_model.specs.Calls.{Call, LogsOn, OfSession, OfWorker, OfAdmin, Kills, FailsOver, Restarts, Attaches, Cancels, Resubmits, Takes, Posts, call_of, who_calls}
+use Rattle.hall_model.specs.Calls.{Call, LogsOn, OfSession, OfWorker, OfAdmin, Kills, FailsOver, Restarts, Attaches, Cancels, Resubmits, Posts, call_of, who_calls}
 use Rattle.hall_model.specs.History.{is_unrecorded}
 use Rattle.hall_model.specs.declared.command.PastEntry.{PastEntry}
 use Rattle.hall_model.specs.declared.command.Reply.{Reply}
@@ -18,12 +18,12 @@ use Rattle.hall_model.specs.declared.command.Who.TheVariants as caller
 use Rattle.caller_laws.specs.Callers.{AreTheirs, is_by}
 use Rattle.caller_laws.specs.Seen.{AreSeen, IsEntryOf, Nothing, Others, Kept, Unkept}
 use Rattle.order_laws.specs.Behind.{order_after, order_behind, order_by, own_order, up_after}
-use Rattle.order_workers.specs.Orders.{Goes, Begins, Does, Turns, IsIdle, IsPosted, is_idle, is_refused, post_of, take_of}
+use Rattle.order_workers.specs.Orders.{Goes, Begins, Does, Turns, IsIdle, IsPosted, is_idle, is_refused}
 use Rattle.order_workers.specs.Orders.{Made as MadeByWorker}
-use Rattle.order_workers.specs.declared.worker.Part.{Part}
-use Rattle.order_workers.specs.declared.worker.Part.TheVariants.{V1, V2}
+use Rattle.ledger_steps.specs.declared.part.Part.{Part}
 use Rattle.script_actors.specs.Doers.{is_same}
 use Rattle.rest_laws.proofs.Splits.{all_before, all_behind, no_push}
+use Rattle.model_laws.proofs.PartOrders.{post_is}
 
 pub never : false ≡ true → ⊥
 never e = cc
@@ -166,23 +166,11 @@ none_stays w (e ∷ es) theirs none =
 
 -- ---- behind a worker's calls
 
-abbrev pub number_of : Part → ℕ
-number_of V1 = 1
-number_of V2 = 2
-
-pub take_is : (part : Part) (w : ℕ) → call_of (take_of part w) ≡ OfWorker w (Takes (number_of part))
-take_is V1 w = refl
-take_is V2 w = refl
-
-pub post_is : (part : Part) (w : ℕ) → call_of (post_of part w) ≡ OfWorker w (Posts (number_of part))
-post_is V1 w = refl
-post_is V2 w = refl
-
-own_done : (part : ℕ) (r : Reply) (before : Option UnitKey) → is_refused r ≡ false → own_order (Posts part) r before ≡ None
+own_done : (part : Part) (r : Reply) (before : Option UnitKey) → is_refused r ≡ false → own_order (Posts part) r before ≡ None
 own_done part (reply.Refused x) before h = absurd (never (sym h))
 own_done part _ before h = refl
 
-post_ends : (w part : ℕ) (r : Reply) (before : Option UnitKey) → is_refused r ≡ false → order_by w (OfWorker w (Posts part)) r before ≡ None
+post_ends : (w : ℕ) (part : Part) (r : Reply) (before : Option UnitKey) → is_refused r ≡ false → order_by w (OfWorker w (Posts part)) r before ≡ None
 post_ends w part r before h =
     ap (λ b. if b then own_order (Posts part) r before else before) (same_number w) ∙ own_done part r before h
 
@@ -191,7 +179,7 @@ posted_none : (w : ℕ) (part : Part) (e : PastEntry) (m : MadeByWorker) (before
 posted_none w part e m before is posted =
     ap (λ c. order_by w (call_of c) e.reply before) (is.command ∙ posted.0)
     ∙ ap (λ c. order_by w c e.reply before) (post_is part w)
-    ∙ post_ends w (number_of part) e.reply before (ap is_refused is.reply ∙ posted.1)
+    ∙ post_ends w part e.reply before (ap is_refused is.reply ∙ posted.1)
 
 unrecorded_refused : (r : Reply) → is_unrecorded r ≡ true → is_refused r ≡ true
 unrecorded_refused (reply.Refused x) h = refl

@@ -8,7 +8,7 @@ use Rattle.std.proofs.lemmas.List.Folds.{list_any-append}
 use Rattle.std.proofs.lemmas.List.Sums.{fold-append}
 use Rattle.enq_base.specs.declared.condition.Condition.TheVariants as condition
 use Rattle.enq_base.specs.declared.refusal.Refusal.TheVariants as refusal
-use Rattle.hall_model.specs.Calls.{call_of}
+use Rattle.hall_model.specs.Calls.{call_of, post_of, take_of}
 use Rattle.hall_model.specs.History.{IsStep, Served, after_of, entry_of, takes_flight}
 use Rattle.hall_model.specs.Orders.{first_unclaimed, order_of}
 use Rattle.hall_model.specs.Recall.{AreModelAnswers, IsModelAnswer, Made, calls_of, recalled, state_after}
@@ -28,15 +28,16 @@ use Rattle.order_laws.proofs.UpTold.{all_answers, steady_up}
 use Rattle.order_laws.proofs.WorkerAnswers.{idle_take}
 use Rattle.order_laws.specs.Behind.{IsFresh, StaysUp, order_after}
 use Rattle.order_laws.specs.Resting.{AllRestBehind, FindsNone, NoneOffers, NoneWaits, offers}
-use Rattle.order_workers.specs.Orders.{Goes, Begins, Does, Turns, Leads, Stays, Then, Rests, is_idle, other, post_of, take_of}
+use Rattle.order_workers.specs.Orders.{Goes, Begins, Does, Turns, Leads, Stays, Then, Rests, is_idle, other}
 use Rattle.order_workers.specs.Orders.{IsIdle as FoundNone}
 use Rattle.order_workers.specs.Orders.{Made as MadeByWorker}
-use Rattle.order_workers.specs.declared.worker.Part.{Part}
-use Rattle.order_workers.specs.declared.worker.Part.TheVariants.{V1, V2}
+use Rattle.ledger_steps.specs.declared.part.Part.{Part}
+use Rattle.ledger_steps.specs.declared.part.Part.TheVariants.{V1, V2}
 use Rattle.rest_laws.specs.Rest.{BeganAt, IsIdle, LeadsState, RestedAlone, WentWell}
 use Rattle.rest_laws.proofs.Histories.{answers_all, answers_first, answers_more, answers_on, answers_rest, calm_too}
-use Rattle.rest_laws.proofs.LastCalls.{goes_free, never, none_stays, number_of, take_is}
+use Rattle.rest_laws.proofs.LastCalls.{goes_free, never, none_stays}
 use Rattle.rest_laws.proofs.Splits.{headed, mapped_none, no_push, split}
+use Rattle.model_laws.proofs.PartOrders.{take_is}
 
 -- ---- the calls of the last look, as the model answers them
 
@@ -139,15 +140,15 @@ as_step s m r answer e = record {
 }
 
 found_none : (s : State) (m : Made) (w : ℕ) (part : Part) (take : MadeByWorker) → s.condition ≡ condition.Up → IsModelAnswer s m
-    → asked_in m ≡ asked_by take → FoundNone w part take → FindsNone s (recalled s m) w (number_of part)
+    → asked_in m ≡ asked_by take → FoundNone w part take → FindsNone s (recalled s m) w part
 found_none s m w part take up answer e idle =
     let told = ap (λ (a : Asked). a.reply) e ∙ told_idle take.reply idle.1 in
-    idle_take s (recalled s m) m.call.line m.call.command w (number_of part) up
+    idle_take s (recalled s m) m.call.line m.call.command w part up
     (ap (λ (a : Asked). call_of a.command) e ∙ ap call_of idle.0 ∙ take_is part w) (as_step s m _ answer told)
 
 -- ---- V1 orders
 
-abbrev NoneToTake : ℕ → State → Type 0
+abbrev NoneToTake : Part → State → Type 0
 NoneToTake part s = first_unclaimed s.orders (waiting_for part s.stored) ≡ None
 
 -- at some place of these calls there was no V1 order to take, and those behind it offer no unit for one
@@ -155,7 +156,7 @@ pub record Emptied (s : State) (made : List Made) : Type 0 where
   pub earlier : List Made
   pub later : List Made
   pub whole : made ≡ earlier ++ later
-  pub none : NoneToTake 1 (state_after s earlier)
+  pub none : NoneToTake V1 (state_after s earlier)
   pub offered : NoneOffers (calls_of later)
 
 -- where V2 orders are taken next
@@ -176,7 +177,7 @@ if_more : (part : Part) (s : State) (front back : List Made) → NoneOffers (cal
 if_more V1 s front back none h = tt
 if_more V2 s front back none h = emptied_more s front back none h
 
-if_turned : (part : Part) (s : State) (front back : List Made) → NoneToTake (number_of part) (state_after s front) → NoneOffers (calls_of back)
+if_turned : (part : Part) (s : State) (front back : List Made) → NoneToTake part (state_after s front) → NoneOffers (calls_of back)
     → IfSecond (other part) s (front ++ back)
 if_turned V1 s front back none offered = record { earlier = front; later = back; whole = refl; none = none; offered = offered }
 if_turned V2 s front back none offered = tt
@@ -232,7 +233,7 @@ last_offers : (s : State) (made : List Made) (cs : List MadeByWorker) (m : MadeB
 last_offers s made cs m w part at h = taken_offers w part (h.last ∷ []) m at (ap (λ a. a ∷ []) h.is)
 
 none_at : (s : State) (made : List Made) (cs : List MadeByWorker) (m : MadeByWorker) (w : ℕ) (part : Part) → FoundNone w part m
-    → (h : FollowsLast s made cs m) → FindsNone (state_after s h.front) (recalled (state_after s h.front) h.last) w (number_of part)
+    → (h : FollowsLast s made cs m) → FindsNone (state_after s h.front) (recalled (state_after s h.front) h.last) w part
 none_at s made cs m w part idle h = found_none (state_after s h.front) h.last w part m h.up h.answer h.is idle
 
 pub goes_emptied : (w : ℕ) (calls : List MadeByWorker) (part : Part) → Goes w calls part → (s : State) (made : List Made) → Follows s made calls
@@ -318,7 +319,7 @@ module _ (first s t : State) (before : List Made) (fresh : IsFresh first) (from 
     last : FollowsLast s led.made rests.before rests.take
     last = follows_last s led.made rests.before rests.take followed
 
-    looked : FindsNone (state_after s last.front) (recalled (state_after s last.front) last.last) w 2
+    looked : FindsNone (state_after s last.front) (recalled (state_after s last.front) last.last) w V2
     looked = none_at s led.made rests.before rests.take w V2 rests.idle last
 
     emptied : Emptied s led.made
@@ -342,10 +343,10 @@ module _ (first s t : State) (before : List Made) (fresh : IsFresh first) (from 
 
     rest : AllRestBehind first (before ++ emptied.earlier) emptied.later
     rest = record {
-      first_none = subst (NoneToTake 1) (sym (whole_state emptied.earlier)) emptied.none;
+      first_none = subst (NoneToTake V1) (sym (whole_state emptied.earlier)) emptied.none;
       offered = emptied.offered;
       second_none =
-          subst (NoneToTake 2) (sym (ap (state_after first) (sym parted) ∙ whole_ends ∙ ends_same)) looked.none;
+          subst (NoneToTake V2) (sym (ap (state_after first) (sym parted) ∙ whole_ends ∙ ends_same)) looked.none;
       free = λ worker few. subst (λ ms. order_after worker (calls_of ms) ≡ None) parted (free_behind worker few);
     }
 

@@ -3,7 +3,7 @@ use Rattle.std.proofs.Common.{◌≡◌, ℕ, ◌≤◌, Bool, true, false, List
 use Rattle.std.specs.Prelude.{◌||◌, Option}
 use Rattle.std.specs.List.{list_any}
 use Rattle.enq_base.specs.Causes.{Rose}
-use Rattle.enq_server.specs.Following.{Following, IsLater}
+use Rattle.enq_server.specs.Replica.{IsLater, ReplicaView}
 use Rattle.hall_calls.specs.Leaving.{HasCounted}
 use Rattle.hall_model.specs.declared.command.PastEntry.{PastEntry}
 use Rattle.lock_entry.specs.declared.entry.Entry.{Entry}
@@ -61,11 +61,11 @@ calls_later fails (m ∷ ms) f g h = later_from f h.0 g (counted_later (fails m)
 -- ---- the link
 
 -- a link that nothing was asked of
-pub same_link : {L : Type 0} (applied : L → Option (List Entry)) (faults refusals : L → ℕ) (f : Following L) → IsLater applied faults refusals f f
+pub same_link : {L : Type 0} (applied : L → Option (List Entry)) (faults refusals : L → ℕ) (f : ReplicaView L) → IsLater applied faults refusals f f
 same_link applied faults refusals f = record { faults_later = omega arith; refusals_later = omega arith; told = refl }
 
 -- one stretch behind another
-pub link_on : {L : Type 0} (applied : L → Option (List Entry)) (faults refusals : L → ℕ) (a b c : Following L) → IsLater applied faults refusals a b
+pub link_on : {L : Type 0} (applied : L → Option (List Entry)) (faults refusals : L → ℕ) (a b c : ReplicaView L) → IsLater applied faults refusals a b
     → IsLater applied faults refusals b c → IsLater applied faults refusals a c
 link_on applied faults refusals a b c h k = record {
   faults_later = omega (arith, h.faults_later, k.faults_later);

@@ -21,7 +21,7 @@ use Rattle.hall_model.specs.declared.command.PastEntry.{PastEntry}
 use Rattle.hall_model.specs.declared.command.Reply.{Reply}
 use Rattle.hall_model.specs.declared.command.Reply.TheVariants as reply
 use Rattle.hall_model.specs.Devices.{AllWell, BackupFails, DeviceOutcome, Event, FindsBad, FindsBadStore, LinkFails, MeetsWant, NotRemade, Reading, RemakeFault, StoreFails, Wanting, all_well, fault_told, found_by, is_file_failure, is_store_failure}
-use Rattle.hall_model.specs.History.{doubted, losing, noted, pending_after, refused, step}
+use Rattle.hall_model.specs.History.{doubted, in_flight_after, losing, noted, refused, step}
 use Rattle.hall_calls.specs.Leaving.{HasCounted}
 use Rattle.hall_model.specs.Recall.{HasBegun}
 use Rattle.hall_model.specs.State.{State, doubt_in}
@@ -247,8 +247,9 @@ no_failure s t (inr (inr h)) = absurd (let wrong : false ≡ true = h.0 in cc)
 store_failed : (reading : Reading) (lost : Bool) (s : State) (n : ℕ) (c : Command)
     → IsFailed true false (length s.past) (step (record { event = StoreFails; reading = reading; lost = lost }) s n c).state
 store_failed reading lost s n c =
-    let pending = pending_after reading s (call_of c) (call_verdict (found_by reading s) s (call_of c)) in
-    by_stock (λ call t. IsFailed true false (length s.past) (noted n c false (losing lost (refused (doubted t call None pending) refusal.StoreFault))).state) s
+    let in_flight = in_flight_after reading s (call_of c) (call_verdict (found_by reading s) s (call_of c)) in
+    by_stock (λ call t. IsFailed true false (length s.past) (noted n c false (losing lost (refused (doubted t call None in_flight) refusal.StoreFault))).state)
+    s
     (λ name parts stock. record { place = length s.past; doubt = refl; later = omega arith; within = longer s.past _; answer = inl (refl, last_call s.past _) })
     (λ call. record { place = length s.past; doubt = refl; later = omega arith; within = longer s.past _; answer = inl (refl, last_call s.past _) })
     (call_of c)

@@ -227,7 +227,8 @@ with_asked w s object m values next =
     of_session w.sides s (unless_refused (asking (variables_of w.sides s) w.objects object m values) next)
 
 -- the same in requests, for the owners that its scope names
-abbrev pub with_requested : Setting → List ℕ → List ℕ → Mode → Scope → List RawValue → (List Request → Meaning) → Meaning
+abbrev pub with_requested : Setting → List ℕ → List ℕ → Mode → Scope → List RawValue → (List Request → Meaning)
+    → Meaning
 with_requested w s object m scope values next =
     of_session w.sides s (unless_refused (requesting (variables_of w.sides s) w.objects object m scope values) next)
 

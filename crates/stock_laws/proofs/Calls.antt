@@ -30,7 +30,7 @@ use Rattle.model_laws.proofs.EachLock.{every_append, every_filter, every_map}
 use Rattle.hall_model.specs.Calls.{Call}
 use Rattle.hall_model.specs.Kept.{IsSteady}
 use Rattle.hall_model.specs.Numbers.{drawn, next_number, raised_to, stocked}
-use Rattle.hall_model.specs.OpenUnits.{OfPending}
+use Rattle.hall_model.specs.OpenUnits.{OfInFlight}
 use Rattle.hall_model.specs.Sessions.{bereft_if, begun, session_at, unit_key, with_draw, with_fresh_unit, with_mark as with_flag, with_next_unit, with_session, without_draws}
 use Rattle.hall_model.specs.State.{State}
 use Rattle.hall_model.specs.Step.{Found, Verdict, committed, has_lock, is_taken, numbered, restarted, stored_anew, unit_of}
@@ -62,9 +62,9 @@ not_not : (b : Bool) → not b ≡ false → b ≡ true
 not_not true h = refl
 not_not false h = absurd (true≢false h)
 
-anew_goes : (b : Lot) (taken : Bool) (stored : Ledger) (pending : Option Ledger) → GoesOn b stored.levels stored → OfPending pending (GoesOn b stored.levels)
-    → GoesOn b stored.levels (stored_anew taken stored pending)
-anew_goes b false stored pending same h = same
+anew_goes : (b : Lot) (taken : Bool) (stored : Ledger) (in_flight : Option Ledger) → GoesOn b stored.levels stored
+    → OfInFlight in_flight (GoesOn b stored.levels) → GoesOn b stored.levels (stored_anew taken stored in_flight)
+anew_goes b false stored in_flight same h = same
 anew_goes b true stored None same h = same
 anew_goes b true stored (Some changed) same h = h
 
@@ -195,7 +195,7 @@ module _ (b : Lot) (s : State) (steady : IsSteady s) (h : IsStocked s b) where
   anew_led taken = record {
     one = h.one;
     undrawn = every_map (HasNone b.interval) (HasNone b.interval) (bereft_if s.failed_caller) (bereft_none b.interval s.failed_caller) s.sessions h.undrawn;
-    goes = anew_goes b taken s.stored s.pending same_goes h.in_flight;
+    goes = anew_goes b taken s.stored s.in_flight same_goes h.flight_goes;
   }
 
   pub each : (found : Found) → OfEach (LeadsOn b s) found s

@@ -13,7 +13,7 @@ use Rattle.draw_laws.proofs.Counting.{count_append}
 use Rattle.draw_laws.proofs.OwnNumbers.{empty_from, times_append}
 use Rattle.model_laws.proofs.FoundSessions.{found_in}
 use Rattle.hall_model.specs.Kept.{draws_in}
-use Rattle.hall_model.specs.OpenUnits.{OfPending}
+use Rattle.hall_model.specs.OpenUnits.{OfInFlight}
 use Rattle.hall_model.specs.Sessions.{bereft, bereft_if, is_called, loses, session_at, with_session}
 use Rattle.hall_model.specs.State.{State}
 use Rattle.hall_model.specs.declared.command.Session.{Session}
@@ -77,12 +77,12 @@ all_more b handed nums more h n some = given_more b handed n more (h n some)
 
 -- ---- a change in flight
 
-pub flying_more : (o : Option Ledger) (Q R : Ledger → Type 0) → ((ledger : Ledger) → Q ledger → R ledger) → OfPending o Q → OfPending o R
+pub flying_more : (o : Option Ledger) (Q R : Ledger → Type 0) → ((ledger : Ledger) → Q ledger → R ledger) → OfInFlight o Q → OfInFlight o R
 flying_more None Q R more h = tt
 flying_more (Some ledger) Q R more h = more ledger h
 
-pub none_flies : (o : Option Ledger) (Q : Ledger → Type 0) → o ≡ None → OfPending o Q
-none_flies o Q none = subst (λ p. OfPending p Q) (sym none) tt
+pub none_flies : (o : Option Ledger) (Q : Ledger → Type 0) → o ≡ None → OfInFlight o Q
+none_flies o Q none = subst (λ p. OfInFlight p Q) (sym none) tt
 
 -- ---- other lots
 
@@ -93,8 +93,8 @@ lot_more s b handed h more = record {
   first = h.first;
   level = h.level;
   committed = all_more b handed (numbers_of s.stored.units s.stored.marks) more h.committed;
-  in_flight = flying_more s.pending (GoesOn b s.stored.levels) (GoesOn (record b { handed = handed }) s.stored.levels)
-      (λ ledger g. record { risen = g.risen; given = all_more b handed (numbers_of ledger.units ledger.marks) more g.given }) h.in_flight;
+  flight_goes = flying_more s.in_flight (GoesOn b s.stored.levels) (GoesOn (record b { handed = handed }) s.stored.levels)
+      (λ ledger g. record { risen = g.risen; given = all_more b handed (numbers_of ledger.units ledger.marks) more g.given }) h.flight_goes;
   undrawn = h.undrawn;
 }
 
@@ -112,7 +112,7 @@ lot_limited s b limit h reserved = record {
   first = h.first;
   level = reserved;
   committed = h.committed;
-  in_flight = flying_more s.pending (GoesOn b s.stored.levels) (GoesOn (limited limit b) s.stored.levels)
-      (λ ledger g. record { risen = g.risen; given = g.given }) h.in_flight;
+  flight_goes = flying_more s.in_flight (GoesOn b s.stored.levels) (GoesOn (limited limit b) s.stored.levels)
+      (λ ledger g. record { risen = g.risen; given = g.given }) h.flight_goes;
   undrawn = h.undrawn;
 }

@@ -59,6 +59,6 @@ lot_opened max_locks mark_limit intervals told link_told ledger i are fit first 
       first = behind.low;
       level = none_more next;
       committed = λ n some. inl (behind.before n (plus_none _ some));
-      in_flight = tt;
+      flight_goes = tt;
       undrawn = tt;
     }

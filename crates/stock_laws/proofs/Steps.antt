@@ -16,10 +16,10 @@ use Rattle.model_laws.proofs.EachLock.{every_map}
 use Rattle.model_laws.proofs.NotedCalls.{by_noting}
 use Rattle.hall_model.specs.Calls.{Call, OfSession, Commits, call_of, only_reads}
 use Rattle.hall_model.specs.Devices.{DeviceOutcome, Reading, found_by}
-use Rattle.hall_model.specs.History.{IsStep, Served, doubted, had_lock, is_unread, judged, pending_after, read_anew, served, step, stored_before_file, takes_flight, unfiled, without_stock}
+use Rattle.hall_model.specs.History.{IsStep, Served, doubted, had_lock, in_flight_after, is_unread, judged, read_anew, served, step, stored_before_file, takes_flight, unfiled, without_stock}
 use Rattle.hall_model.specs.Kept.{IsKept, IsSteady}
 use Rattle.hall_model.specs.Numbers.{stocked}
-use Rattle.hall_model.specs.OpenUnits.{OfPending}
+use Rattle.hall_model.specs.OpenUnits.{OfInFlight}
 use Rattle.hall_model.specs.Sessions.{with_mark as with_flag, with_marks}
 use Rattle.hall_model.specs.State.{State}
 use Rattle.hall_model.specs.Step.{Found, Verdict, Refuses, Leaves, call_verdict, is_taken, restarted}
@@ -28,30 +28,30 @@ use Rattle.hall_model.specs.declared.command.Reply.{Reply}
 use Rattle.hall_model.specs.declared.command.Session.{Session}
 use Rattle.hall_laws.proofs.keeping.DrawnNumbers.{CommitsNone, post_commits_none}
 use Rattle.hall_laws.proofs.keeping.EachCall.{by_condition}
-use Rattle.hall_laws.proofs.keeping.Unchanged.{verdict_pending}
+use Rattle.hall_laws.proofs.keeping.Unchanged.{verdict_in_flight}
 use Rattle.stock_laws.proofs.Calls.{IsLedTo, Leads, LeadsOn, anew_led, each, mark_goes}
 use Rattle.stock_laws.proofs.Given.{none_flies}
 use Rattle.stock_laws.specs.Stocked.{GoesOn, HasNone, IsLotOf, IsStocked, Lot, Respects, is_undone}
 
 -- a state after a call has the lot still
-lot_behind : (b : Lot) (s : State) (ranges : List NumberRange) (sessions : List Session) (ledger : Ledger) (pending : Option Ledger) → IsStocked s b
-    → IsLedTo b s.stored.levels ranges sessions ledger → OfPending pending (GoesOn b ledger.levels) → IsLotOf ranges sessions ledger pending b
-lot_behind b s ranges sessions ledger pending h led flying = record {
+lot_behind : (b : Lot) (s : State) (ranges : List NumberRange) (sessions : List Session) (ledger : Ledger) (in_flight : Option Ledger) → IsStocked s b
+    → IsLedTo b s.stored.levels ranges sessions ledger → OfInFlight in_flight (GoesOn b ledger.levels) → IsLotOf ranges sessions ledger in_flight b
+lot_behind b s ranges sessions ledger in_flight h led flying = record {
   one = led.one;
   buffered = h.buffered;
   first = h.first;
   level = let before = h.level in let risen = led.goes.risen in omega (arith, before, risen);
   committed = led.goes.given;
-  in_flight = flying;
+  flight_goes = flying;
   undrawn = led.undrawn;
 }
 
 -- the change that is in flight where the store fails: that of the call, or the one before
-flying_after : (Q : Ledger → Type 0) (reading : Reading) (s : State) (call : Call) (v : Verdict) → OfPending s.pending Q → Q (judged s v).state.stored
-    → OfPending (pending_after reading s call v) Q
+flying_after : (Q : Ledger → Type 0) (reading : Reading) (s : State) (call : Call) (v : Verdict) → OfInFlight s.in_flight Q → Q (judged s v).state.stored
+    → OfInFlight (in_flight_after reading s call v) Q
 flying_after Q reading s call (Refuses r) h new = h
 flying_after Q reading s call (Leaves after r) h new =
-    elim (only_reads call || is_unread reading call) as (λ c. OfPending (if c then s.pending else Some after.stored) Q) [ true ↦ h | false ↦ new ]
+    elim (only_reads call || is_unread reading call) as (λ c. OfInFlight (if c then s.in_flight else Some after.stored) Q) [ true ↦ h | false ↦ new ]
 
 -- what is shown of a call that is served
 abbrev pub LeavesLot : Lot → Call → Served → Type 0
@@ -62,43 +62,43 @@ module _ (b : Lot) (s : State) (steady : IsSteady s) (h : IsStocked s b) where
   flagged had = every_map (HasNone b.interval) (HasNone b.interval) (with_flag had) (λ x k. k) s.sessions h.undrawn
 
   -- in doubt
-  doubts : (call : Call) (read : Option Bool) (pending : Option Ledger) → OfPending pending (GoesOn b s.stored.levels)
-      → IsStocked (doubted s call read pending) b
-  doubts call read pending flying = record {
+  doubts : (call : Call) (read : Option Bool) (in_flight : Option Ledger) → OfInFlight in_flight (GoesOn b s.stored.levels)
+      → IsStocked (doubted s call read in_flight) b
+  doubts call read in_flight flying = record {
     one = h.one;
     buffered = h.buffered;
     first = h.first;
     level = h.level;
     committed = h.committed;
-    in_flight = flying;
+    flight_goes = flying;
     undrawn = flagged (had_lock s);
   }
 
   -- and numbers of a stock are passed
-  doubts_stocked : (stock : List Num) (call : Call) (pending : Option Ledger) → OfPending pending (GoesOn b s.stored.levels)
-      → IsStocked (doubted (stocked stock s) call None pending) b
-  doubts_stocked stock call pending flying = record {
+  doubts_stocked : (stock : List Num) (call : Call) (in_flight : Option Ledger) → OfInFlight in_flight (GoesOn b s.stored.levels)
+      → IsStocked (doubted (stocked stock s) call None in_flight) b
+  doubts_stocked stock call in_flight flying = record {
     one = subst (λ js. Contains js b.interval) (sym (passed_intervals stock s.ranges)) h.one;
     buffered = h.buffered;
     first = h.first;
     level = h.level;
     committed = h.committed;
-    in_flight = flying;
+    flight_goes = flying;
     undrawn = flagged (had_lock (stocked stock s));
   }
 
   abbrev StaysInDoubt : Call → State → Type 0
-  StaysInDoubt call t = (pending : Option Ledger) → OfPending pending (GoesOn b s.stored.levels) → IsStocked (doubted t call None pending) b
+  StaysInDoubt call t = (in_flight : Option Ledger) → OfInFlight in_flight (GoesOn b s.stored.levels) → IsStocked (doubted t call None in_flight) b
 
   fails : (reading : Reading) (call : Call) → Respects b call
-      → IsStocked (doubted (without_stock call s) call None (pending_after reading s call (call_verdict (found_by reading s) s call))) b
+      → IsStocked (doubted (without_stock call s) call None (in_flight_after reading s call (call_verdict (found_by reading s) s call))) b
   fails reading call respects =
       let found = found_by reading s in
       let v = call_verdict found s call in
       let led : Leads b s (judged s v).state = by_call (LeadsOn b s) found s (each b s steady h found) call (λ sure. respects) in
       by_stock StaysInDoubt s (λ name parts stock. doubts_stocked stock (OfSession name (Commits parts stock))) (λ other. doubts other None) call
-      (pending_after reading s call v)
-      (flying_after (GoesOn b s.stored.levels) reading s call v h.in_flight led.goes)
+      (in_flight_after reading s call v)
+      (flying_after (GoesOn b s.stored.levels) reading s call v h.flight_goes led.goes)
 
   -- the disk of the backup file fails: a mark may stand already
   marked : (call : Call) (read : Option Bool) (key : UnitKey) (kind : MarkKind) → CommitsNone kind
@@ -109,7 +109,7 @@ module _ (b : Lot) (s : State) (steady : IsSteady s) (h : IsStocked s b) where
     first = h.first;
     level = h.level;
     committed = (mark_goes b s steady h key kind none).given;
-    in_flight = h.in_flight;
+    flight_goes = h.flight_goes;
     undrawn = flagged (had_lock s);
   }
 
@@ -118,7 +118,7 @@ module _ (b : Lot) (s : State) (steady : IsSteady s) (h : IsStocked s b) where
   unfiles reading call =
       let found = found_by reading s in
       let read = read_anew reading in
-      by_filing (λ ledger. IsStocked (unfiled s call read ledger) b) found s call (doubts call read s.pending h.in_flight)
+      by_filing (λ ledger. IsStocked (unfiled s call read ledger) b) found s call (doubts call read s.in_flight h.flight_goes)
       (λ worker part unit e. marked call read unit (kind_for part (found.part part unit)) (post_commits_none part (found.part part unit)))
       (λ unit status can. marked call read unit mark.Gone (λ units seq key. refl))
 
@@ -127,8 +127,8 @@ module _ (b : Lot) (s : State) (steady : IsSteady s) (h : IsStocked s b) where
   done found call may =
       let t = (judged s (call_verdict found s call)).state in
       by_condition (IsStocked t b) s steady
-      (λ quiet. lot_behind b s t.ranges t.sessions t.stored t.pending h (by_call (LeadsOn b s) found s (each b s steady h found) call may)
-      (none_flies t.pending (GoesOn b t.stored.levels) (verdict_pending (λ o. o ≡ None) found s call quiet.pending refl)))
+      (λ quiet. lot_behind b s t.ranges t.sessions t.stored t.in_flight h (by_call (LeadsOn b s) found s (each b s steady h found) call may)
+      (none_flies t.in_flight (GoesOn b t.stored.levels) (verdict_in_flight (λ o. o ≡ None) found s call quiet.in_flight refl)))
       (λ n down. by_doubt (λ c v. IsStocked (judged s v).state b) found s n call down (λ c r. h)
       (let anew = restarted (is_taken found.anew) s in
       lot_behind b s anew.ranges anew.sessions anew.stored None h (anew_led b s steady h (is_taken found.anew)) tt))
@@ -137,7 +137,7 @@ module _ (b : Lot) (s : State) (steady : IsSteady s) (h : IsStocked s b) where
   served_lot o c =
       let call = call_of c in
       by_event (LeavesLot b call) o s c (λ lost r k. k) (λ found. done found call) (λ may. h) (λ may. h)
-      (λ reading may. fails reading call (may refl)) (λ reading may. unfiles reading call) (λ read r may. doubts call read s.pending h.in_flight)
+      (λ reading may. fails reading call (may refl)) (λ reading may. unfiles reading call) (λ read r may. doubts call read s.in_flight h.flight_goes)
 
   step_lot : (o : DeviceOutcome) (line : ℕ) (c : Command) → LeavesLot b (call_of c) (step o s line c)
   step_lot o line c = by_noting (LeavesLot b (call_of c)) line c (takes_flight o) (served o s c) (served_lot o c) (served_lot o c)

@@ -13,7 +13,7 @@ use Rattle.ledger_steps.specs.Drawn.{AreOfOne, drawn_from, drawn_of, times}
 use Rattle.ledger_steps.specs.Levels.{intervals_of, level_in, present}
 use Rattle.ledger_steps.specs.declared.range.NumberRange.{NumberRange}
 use Rattle.hall_model.specs.Calls.{Call, OfSession, SessionCall, Draws, Commits}
-use Rattle.hall_model.specs.OpenUnits.{OfPending}
+use Rattle.hall_model.specs.OpenUnits.{OfInFlight}
 use Rattle.hall_model.specs.State.{State}
 use Rattle.hall_model.specs.declared.command.Reply.{Reply}
 use Rattle.hall_model.specs.declared.command.Reply.TheVariants as reply
@@ -51,7 +51,7 @@ pub record GoesOn (b : Lot) (levels : Levels) (ledger : Ledger) : Type 0 where
 abbrev pub HasNone : Interval → Session → Type 0
 HasNone i x = drawn_of i x.draws ≡ 0
 
-pub record IsLotOf (ranges : List NumberRange) (sessions : List Session) (stored : Ledger) (pending : Option Ledger)
+pub record IsLotOf (ranges : List NumberRange) (sessions : List Session) (stored : Ledger) (in_flight : Option Ledger)
     (b : Lot) : Type 0 where
   pub one : Contains (intervals_of ranges) b.interval
   pub buffered : is_buffered b.interval ≡ true
@@ -59,12 +59,12 @@ pub record IsLotOf (ranges : List NumberRange) (sessions : List Session) (stored
   -- the level reserves the numbers of all tickets that may be answered
   pub level : b.base + b.limit ≤ level_in stored.levels b.interval + 1
   pub committed : AreGiven b (numbers_of stored.units stored.marks)
-  pub in_flight : OfPending pending (GoesOn b stored.levels)
+  pub flight_goes : OfInFlight in_flight (GoesOn b stored.levels)
   pub undrawn : AllByRecursion (HasNone b.interval) sessions
 
 -- the numbers of the lot's other tickets up to the limit are free to be committed
 abbrev pub IsStocked : State → Lot → Type 0
-IsStocked s b = IsLotOf s.ranges s.sessions s.stored s.pending b
+IsStocked s b = IsLotOf s.ranges s.sessions s.stored s.in_flight b
 
 -- ---- calls
 

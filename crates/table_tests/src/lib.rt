@@ -4,7 +4,7 @@
 #[cfg(test)]
 mod beside;
 #[cfg(test)]
-mod copies;
+mod replicas;
 #[cfg(test)]
 mod steps;
 #[cfg(test)]

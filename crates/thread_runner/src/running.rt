@@ -82,12 +82,12 @@ pub fn run<
         (K.faults result.0.keeper) (D.faults result.0.file.disk)) result.1 ∥₁ }
     // The history replays from the state that was opened, each call as the model answers it, and leads to the state of
     // the end. A device's count has risen in each call in which it failed.
-    ensures led { ∥ IsLed (is_some (K.held hall.keeper)) D.tells (is_some (L.applied hall.follower.link)) hall.state
-        (counts_of K.faults D.faults L.faults L.refusals hall.keeper hall.file.disk hall.follower.link)
+    ensures led { ∥ IsLed (is_some (K.held hall.keeper)) D.tells (is_some (L.applied hall.replica.link)) hall.state
+        (counts_of K.faults D.faults L.faults L.refusals hall.keeper hall.file.disk hall.replica.link)
         result.0.state
-        (counts_of K.faults D.faults L.faults L.refusals result.0.keeper result.0.file.disk result.0.follower.link) ∥₁ }
+        (counts_of K.faults D.faults L.faults L.refusals result.0.keeper result.0.file.disk result.0.replica.link) ∥₁ }
     ensures told { is_some (K.held result.0.keeper) ≡ is_some (K.held hall.keeper) }
-    ensures link_told { is_some (L.applied result.0.follower.link) ≡ is_some (L.applied hall.follower.link) }
+    ensures link_told { is_some (L.applied result.0.replica.link) ≡ is_some (L.applied hall.replica.link) }
     ensures source { S.faults source.old ≤ S.faults source.new }
     ensures sink { W.faults sink.old ≤ W.faults sink.new }
     // Where the source tells its bytes, a line is to blame only where it is the first such line of them all.
@@ -103,7 +103,7 @@ pub fn run<
         → ¬ Rose (S.faults source.old) (S.faults source.new) → ¬ Rose (W.faults sink.old) (W.faults sink.new)
         → ¬ Rose (K.faults hall.keeper) (K.faults result.0.keeper)
         → ¬ Rose (D.faults hall.file.disk) (D.faults result.0.file.disk)
-        → is_some (K.held hall.keeper) ≡ true → is_some (L.applied hall.follower.link) ≡ true → IsTrue D.tells
+        → is_some (K.held hall.keeper) ≡ true → is_some (L.applied hall.replica.link) ≡ true → IsTrue D.tells
         → EndsWhole result.1 }
 {
     run_as::<Brand, R, S, W, T, K, D, L, G>(rt, alloc, source, sink, hall, objects, workers, gate)
@@ -135,19 +135,19 @@ fn run_as<
     requires free { NoneHasOrder hall.state }
     requires workers { (1 ≤ workers) × (workers ≤ 16) }
     requires first { hall.state ≡ J.first }
-    requires counts { counts_of K.faults D.faults L.faults L.refusals hall.keeper hall.file.disk hall.follower.link
+    requires counts { counts_of K.faults D.faults L.faults L.refusals hall.keeper hall.file.disk hall.replica.link
         ≡ J.counts }
     requires told { is_some (K.held hall.keeper) ≡ J.told }
-    requires linked { is_some (L.applied hall.follower.link) ≡ J.linked }
+    requires linked { is_some (L.applied hall.replica.link) ≡ J.linked }
     ensures runs { ∥ RunsThreads objects.now workers hall.state result.0.state
         (seen (S.left source.old) (W.written sink.old) (S.faults source.old) (W.faults sink.old) (K.faults hall.keeper)
         (D.faults hall.file.disk))
         (seen (S.left source.new) (W.written sink.new) (S.faults source.new) (W.faults sink.new)
         (K.faults result.0.keeper) (D.faults result.0.file.disk)) result.1 ∥₁ }
     ensures led { ∥ IsLed J.told D.tells J.linked J.first J.counts result.0.state
-        (counts_of K.faults D.faults L.faults L.refusals result.0.keeper result.0.file.disk result.0.follower.link) ∥₁ }
+        (counts_of K.faults D.faults L.faults L.refusals result.0.keeper result.0.file.disk result.0.replica.link) ∥₁ }
     ensures told { is_some (K.held result.0.keeper) ≡ J.told }
-    ensures link_told { is_some (L.applied result.0.follower.link) ≡ J.linked }
+    ensures link_told { is_some (L.applied result.0.replica.link) ≡ J.linked }
     ensures source { S.faults source.old ≤ S.faults source.new }
     ensures sink { W.faults sink.old ≤ W.faults sink.new }
     ensures blamed { (bytes : List ℕ) → S.left source.old ≡ Some bytes → BlamesFirst bytes result.1 }

@@ -70,10 +70,10 @@ pub struct ServedHall<J: Origin, T: LockStore, K: Keeper, D: Disk, L: Link> {
     pub hall: Hall<T, K, D, L>,
     of: PhantomData<J>,
     ghost told: { is_some (K.held hall.keeper) ≡ J.told },
-    ghost linked: { is_some (L.applied hall.follower.link) ≡ J.linked },
+    ghost linked: { is_some (L.applied hall.replica.link) ≡ J.linked },
     ghost up: { is_up hall.state.condition ≡ up_after hall.state.past },
     ghost led: { ∥ IsLed J.told D.tells J.linked J.first J.counts hall.state
-        (counts_of K.faults D.faults L.faults L.refusals hall.keeper hall.file.disk hall.follower.link) ∥₁ },
+        (counts_of K.faults D.faults L.faults L.refusals hall.keeper hall.file.disk hall.replica.link) ∥₁ },
 }
 
 impl<J: Origin, T: LockStore, K: Keeper, D: Disk, L: Link> History for ServedHall<J, T, K, D, L> {
@@ -88,10 +88,10 @@ impl<J: Origin, T: LockStore, K: Keeper, D: Disk, L: Link> ServedHall<J, T, K, D
         requires first { hall.state ≡ J.first }
         requires none { hall.state.past ≡ [] }
         requires up { hall.state.condition ≡ Up }
-        requires counts { counts_of K.faults D.faults L.faults L.refusals hall.keeper hall.file.disk hall.follower.link
+        requires counts { counts_of K.faults D.faults L.faults L.refusals hall.keeper hall.file.disk hall.replica.link
             ≡ J.counts }
         requires told { is_some (K.held hall.keeper) ≡ J.told }
-        requires linked { is_some (L.applied hall.follower.link) ≡ J.linked }
+        requires linked { is_some (L.applied hall.replica.link) ≡ J.linked }
         ensures hall { result.hall ≡ hall }
     {
         ServedHall {
@@ -111,10 +111,10 @@ impl<J: Origin, T: LockStore, K: Keeper, D: Disk, L: Link> ServedHall<J, T, K, D
     pub fn into_hall(self) -> Hall<T, K, D, L>
         ensures hall { result ≡ self.hall }
         ensures told { is_some (K.held result.keeper) ≡ J.told }
-        ensures linked { is_some (L.applied result.follower.link) ≡ J.linked }
+        ensures linked { is_some (L.applied result.replica.link) ≡ J.linked }
         ensures up { is_up result.state.condition ≡ up_after result.state.past }
         ensures led { ∥ IsLed J.told D.tells J.linked J.first J.counts result.state
-            (counts_of K.faults D.faults L.faults L.refusals result.keeper result.file.disk result.follower.link) ∥₁ }
+            (counts_of K.faults D.faults L.faults L.refusals result.keeper result.file.disk result.replica.link) ∥₁ }
     {
         self.hall
     }

@@ -9,7 +9,8 @@ use Rattle.gauges.specs.Boards.{IsReaderOf}
 
 -- it may draw so often, and look
 abbrev pub CanDraw : Stock → Gauges → ℕ → StockSeat × GaugePass → Type 0
-CanDraw stock gauges count tokens = IsSeatOf stock tokens.0 × IsReaderOf gauges tokens.1 × (count ≤ (hand tokens.0).draws)
+CanDraw stock gauges count tokens =
+    IsSeatOf stock tokens.0 × IsReaderOf gauges tokens.1 × (count ≤ (hand tokens.0).draws)
 
 -- the numbers that the seat was answered
 abbrev pub numbers_of : Stock → StockSeat → List ℕ

@@ -8,4 +8,7 @@ use Rattle.turn_lock.specs.Rule.{own_entries}
 module _ {S : Type 0} {g : Ghosts S ℕ} where
   -- the pass has this one entry more, where it was noted
   abbrev pub NotedOne : Pass S ℕ g → Pass S ℕ g → ℕ → Bool → Type 0
-  NotedOne before after number noted = MatchBool noted (own_entries (known after) ≡ own_entries (known before) ++ number ∷ []) (own_entries (known after) ≡ own_entries (known before))
+  NotedOne before after number noted =
+      MatchBool noted
+      (own_entries (known after) ≡ own_entries (known before) ++ number ∷ [])
+      (own_entries (known after) ≡ own_entries (known before))

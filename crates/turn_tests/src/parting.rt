@@ -83,7 +83,9 @@ fn answered_once_told(stock: &Stock, from: StockSeat, to: StockSeat, dry: Dry) -
     requires below { ticket_of dry < (hand from).limit }
     ensures { IsOk result }
 {
-    let (_from, mut told) = stock.tell(from, to);
+    let mut teller = from;
+    let mut told = to;
+    stock.tell(&mut teller, &mut told);
     stock.again(&mut told, dry)
 }
 

@@ -29,6 +29,7 @@ use Rattle.hall_model.specs.declared.command.Reply.{Reply}
 use Rattle.hall_model.specs.declared.command.Reply.TheVariants as reply
 use Rattle.hall_model.specs.declared.command.Session.{Session}
 use Rattle.cover_laws.proofs.calls.QuietCalls.{Leaving}
+use Rattle.ledger_steps.specs.declared.part.Part.{Part}
 
 abbrev pub is_by_session : Call → Bool
 is_by_session (OfSession name call) = true
@@ -53,7 +54,7 @@ pub record OfMarks (P : Call → Ledger → Reply → Type 0) (found : Found) (s
       → P (OfSession name (Commits parts stock))
       (record (with_unit s.stored (unit_of s.stored.start s.locks x parts (x.draws ++ stock))) { levels = levels })
       (reply.Unit (unit_key s.stored.start x))
-  pub posts : (worker part : ℕ) (unit : UnitKey) → WaitsFor part s.stored unit
+  pub posts : (worker : ℕ) (part : Part) (unit : UnitKey) → WaitsFor part s.stored unit
       → P (OfWorker worker (Posts part)) (with_mark s.stored unit (kind_for part (found.part part unit)))
       (posted_reply part unit (found.part part unit))
   pub cancels : (unit : UnitKey) (was : Status) → status_of s.stored.units s.stored.marks unit ≡ Some was → may_cancel was ≡ true
@@ -63,7 +64,7 @@ pub record OfMarks (P : Call → Ledger → Reply → Type 0) (found : Found) (s
   pub reposts : (unit : UnitKey) → status_of s.stored.units s.stored.marks unit ≡ Some status.Bad2
       → P (OfAdmin (Resubmits unit)) (with_mark s.stored unit mark.Again2) (reply.Unit unit)
 
-module _ (P : Call → Ledger → Reply → Type 0) (found : Found) (s : State) (nothing : s.pending ≡ None) (each : OfMarks P found s) where
+module _ (P : Call → Ledger → Reply → Type 0) (found : Found) (s : State) (nothing : s.in_flight ≡ None) (each : OfMarks P found s) where
   raised : (call : Call) (i : Interval) (upto : ℕ) (r : Reply) → may_be_unmarked r call ≡ true → P call (raised_to i upto s.stored) r
   raised call i upto r none =
       elim (nat_le upto i.level)
@@ -120,7 +121,7 @@ module _ (P : Call → Ledger → Reply → Type 0) (found : Found) (s : State) 
   }
 
 -- any call, where nothing is in flight
-pub by_marks : (P : Call → Ledger → Reply → Type 0) (found : Found) (s : State) → s.pending ≡ None → OfMarks P found s → (call : Call)
+pub by_marks : (P : Call → Ledger → Reply → Type 0) (found : Found) (s : State) → s.in_flight ≡ None → OfMarks P found s → (call : Call)
     → Leaving (P call) s (call_verdict found s call)
 by_marks P found s nothing each call =
     by_call (λ call v. Leaving (P call) s v) found s (each_verdict P found s nothing each) call

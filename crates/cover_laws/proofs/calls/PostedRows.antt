@@ -1,6 +1,6 @@
 -- Business rows through a quiet call: which stand as they were, and what a reading is answered with.
 use Rattle.std.proofs.Common.{◌≡◌, ℕ, ◌+◌, Bool, true, false, cond, List, [], ◌∷◌, ◌++◌, refl, sym, ap, ◌∙◌, subst}
-use Rattle.std.specs.Prelude.{◌&&◌, if◌then◌else◌, nat_eq, Option, Some, None, Result, Ok, Err}
+use Rattle.std.specs.Prelude.{◌&&◌, if◌then◌else◌, Option, Some, None, Result, Ok, Err}
 use Rattle.std.proofs.lemmas.Bool.{or_parts}
 use Rattle.std.proofs.lemmas.Map.Lookups.{exact_pairs}
 use Rattle.std.specs.Cmp.{Equal-is, IsTotalOrder, on_total, then_total}
@@ -44,6 +44,8 @@ use Rattle.hall_model.specs.declared.command.Session.{Session}
 use Rattle.cover_laws.proofs.calls.MarkedCalls.{OfMarks, by_marks}
 use Rattle.cover_laws.proofs.calls.QuietCalls.{by_stored, none_in_flight}
 use Rattle.cover_laws.proofs.needed.HallNeeded.{ReadsTell, RowsStay, effects_posted, names_row}
+use Rattle.ledger_steps.specs.declared.part.Part.{Part}
+use Rattle.ledger_steps.specs.Parts.{is_first}
 
 -- ---- rows that no effect names
 
@@ -137,15 +139,15 @@ abbrev KeptBy : (table key : List ℕ) → Ledger → UnitKey → MarkKind → M
 KeptBy table key ledger unit one two r q first =
     RowKept table key ledger (with_mark ledger unit (if first then one else two)) (if first then r else q)
 
-part_keeps : (part : ℕ) (ledger : Ledger) (unit : UnitKey) (o : Outcome) (table key : List ℕ)
+part_keeps : (part : Part) (ledger : Ledger) (unit : UnitKey) (o : Outcome) (table key : List ℕ)
     → RowKept table key ledger (with_mark ledger unit (kind_for part o)) (posted_reply part unit o)
 part_keeps part ledger unit outcome.Done table key =
-    elim (nat_eq part 1) as (KeptBy table key ledger unit mark.V1 mark.V2 (reply.Posted unit) (reply.Closed unit)) [
+    elim (is_first part) as (KeptBy table key ledger unit mark.V1 mark.V2 (reply.Posted unit) (reply.Closed unit)) [
       | true ↦ λ off. marked_keeps ledger unit mark.V1 table key off
       | false ↦ λ off. marked_keeps ledger unit mark.V2 table key off
     ]
 part_keeps part ledger unit (outcome.Refused index reason) table key =
-    elim (nat_eq part 1)
+    elim (is_first part)
     as (KeptBy table key ledger unit (mark.Bad1 index reason) (mark.Bad2 index reason) (reply.Bad unit index reason) (reply.Bad2 unit index reason)) [
       | true ↦ λ off. marked_keeps ledger unit (mark.Bad1 index reason) table key refl
       | false ↦ λ off. marked_keeps ledger unit (mark.Bad2 index reason) table key refl

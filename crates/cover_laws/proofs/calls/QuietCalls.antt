@@ -58,8 +58,8 @@ outside_holds condition.NoServer P h sure = h
 outside_holds (condition.Doubt n) P h sure = absurd (sure n refl)
 
 -- nothing is in flight there
-pub none_in_flight : (s : State) (m : Made) → IsQuiet s m → s.pending ≡ None
-none_in_flight s m quiet = outside_holds s.condition (s.pending ≡ None) quiet.reached.steady.settled quiet.sure
+pub none_in_flight : (s : State) (m : Made) → IsQuiet s m → s.in_flight ≡ None
+none_in_flight s m quiet = outside_holds s.condition (s.in_flight ≡ None) quiet.reached.steady.settled quiet.sure
 
 -- while there is a lock server, the handed locks of its table are just those of the open units
 pub held_up : (s : State) → IsReached s → s.condition ≡ condition.Up → HoldsOpenUnits s.locks s.stored

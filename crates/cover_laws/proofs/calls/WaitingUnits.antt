@@ -1,6 +1,6 @@
 -- Units in a quiet call: which wait for their V1 part, which are past it, and what a commit records.
 use Rattle.std.proofs.Common.{◌≡◌, ◌≢◌, ◌⊎◌, inl, inr, ℕ, Bool, true, false, List, [], ◌∷◌, ◌++◌, refl, sym, ap, ◌∙◌, subst}
-use Rattle.std.specs.Prelude.{◌&&◌, if◌then◌else◌, nat_eq, IsTrue, Option, Some, None}
+use Rattle.std.specs.Prelude.{◌&&◌, if◌then◌else◌, IsTrue, Option, Some, None}
 use Rattle.std.specs.Option.{option_map_or}
 use Rattle.enq_base.specs.Owners.{same_unit}
 use Rattle.enq_base.specs.declared.condition.Condition.TheVariants as condition
@@ -42,6 +42,8 @@ use Rattle.cover_laws.proofs.calls.MarkedCalls.{OfMarks, by_marks, may_be_unmark
 use Rattle.cover_laws.proofs.calls.QuietCalls.{Leaving, by_stored, by_served, caller_served, none_in_flight, served_up}
 use Rattle.cover_laws.proofs.needed.HallNeeded.{CommitsRecord, FirstPartsWait, IsPast, IsSure, OpenStays, PastStays, SecondPartsFollow, WaitsOn, WaitsUp}
 use Rattle.cover_laws.specs.Histories.{is_unit, resubmits, settles}
+use Rattle.ledger_steps.specs.declared.part.Part.{Part}
+use Rattle.ledger_steps.specs.Parts.{is_first}
 
 -- ---- what a mark leaves of a unit
 
@@ -88,10 +90,10 @@ bad2_ends index reason = record { now = λ b. status.Bad2; leaves = λ b before.
 gone_ends : Ends mark.Gone
 gone_ends = record { now = λ b. status.Cancelled; leaves = λ b before. refl; other = λ b. cancelled_apart }
 
-part_ends : (part : ℕ) (o : Outcome) → Ends (kind_for part o)
-part_ends part outcome.Done = elim (nat_eq part 1) as (λ b. Ends (if b then mark.V1 else mark.V2)) [ true ↦ v1_ends | false ↦ v2_ends ]
+part_ends : (part : Part) (o : Outcome) → Ends (kind_for part o)
+part_ends part outcome.Done = elim (is_first part) as (λ b. Ends (if b then mark.V1 else mark.V2)) [ true ↦ v1_ends | false ↦ v2_ends ]
 part_ends part (outcome.Refused index reason) =
-    elim (nat_eq part 1) as (λ b. Ends (if b then mark.Bad1 index reason else mark.Bad2 index reason)) [
+    elim (is_first part) as (λ b. Ends (if b then mark.Bad1 index reason else mark.Bad2 index reason)) [
       | true ↦ bad1_ends index reason
       | false ↦ bad2_ends index reason
     ]
@@ -228,15 +230,15 @@ FirstBy ledger key unit r q first =
 not_first : {P : Type 0} → false ≡ true → P
 not_first e = cc
 
-part_first : (part : ℕ) (ledger : Ledger) (key unit : UnitKey) (o : Outcome) → WaitsFor part ledger key
-    → IsTrue (settles unit (posted_reply part key o)) → (nat_eq part 1 ≡ true) × IsOpenUnit ledger unit
+part_first : (part : Part) (ledger : Ledger) (key unit : UnitKey) (o : Outcome) → WaitsFor part ledger key
+    → IsTrue (settles unit (posted_reply part key o)) → (is_first part ≡ true) × IsOpenUnit ledger unit
 part_first part ledger key unit outcome.Done waits told =
-    elim (nat_eq part 1) as (FirstBy ledger key unit (reply.Posted key) (reply.Closed key)) [
+    elim (is_first part) as (FirstBy ledger key unit (reply.Posted key) (reply.Closed key)) [
       | true ↦ λ w t. (refl, subst (IsOpenUnit ledger) (one_unit key unit t) w)
       | false ↦ λ w t. not_first t
     ] waits told
 part_first part ledger key unit (outcome.Refused index reason) waits told =
-    elim (nat_eq part 1) as (FirstBy ledger key unit (reply.Bad key index reason) (reply.Bad2 key index reason)) [
+    elim (is_first part) as (FirstBy ledger key unit (reply.Bad key index reason) (reply.Bad2 key index reason)) [
       | true ↦ λ w t. (refl, subst (IsOpenUnit ledger) (one_unit key unit t) w)
       | false ↦ λ w t. not_first t
     ] waits told
@@ -283,15 +285,15 @@ refused_closed key unit index reason e = cc
 refused2_closed : (key unit : UnitKey) (index : ℕ) (reason : Reason) → reply.Bad2 key index reason ≡ reply.Closed unit → ⊥
 refused2_closed key unit index reason e = cc
 
-part_second : (part : ℕ) (ledger : Ledger) (key unit : UnitKey) (o : Outcome) → WaitsFor part ledger key
+part_second : (part : Part) (ledger : Ledger) (key unit : UnitKey) (o : Outcome) → WaitsFor part ledger key
     → posted_reply part key o ≡ reply.Closed unit → IsPostedUnit ledger unit
 part_second part ledger key unit outcome.Done waits told =
-    elim (nat_eq part 1) as (SecondBy ledger key unit (reply.Posted key) (reply.Closed key)) [
+    elim (is_first part) as (SecondBy ledger key unit (reply.Posted key) (reply.Closed key)) [
       | true ↦ λ w t. absurd (first_closed key unit t)
       | false ↦ λ w t. subst (IsPostedUnit ledger) (second_closed key unit t) w
     ] waits told
 part_second part ledger key unit (outcome.Refused index reason) waits told =
-    elim (nat_eq part 1) as (SecondBy ledger key unit (reply.Bad key index reason) (reply.Bad2 key index reason)) [
+    elim (is_first part) as (SecondBy ledger key unit (reply.Bad key index reason) (reply.Bad2 key index reason)) [
       | true ↦ λ w t. absurd (refused_closed key unit index reason t)
       | false ↦ λ w t. absurd (refused2_closed key unit index reason t)
     ] waits told
@@ -360,7 +362,7 @@ one_reply key unit e = cc
 one_name : (a b : List ℕ) (c d : SessionCall) → OfSession a c ≡ OfSession b d → a ≡ b
 one_name a b c d e = cc
 
-no_worker : (worker part : ℕ) (name : List ℕ) (c : SessionCall) → OfWorker worker (Posts part) ≡ OfSession name c → ⊥
+no_worker : (worker : ℕ) (part : Part) (name : List ℕ) (c : SessionCall) → OfWorker worker (Posts part) ≡ OfSession name c → ⊥
 no_worker worker part name c e = cc
 
 no_admin : (a : AdminCall) (name : List ℕ) (c : SessionCall) → OfAdmin a ≡ OfSession name c → ⊥

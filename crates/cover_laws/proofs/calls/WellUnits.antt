@@ -1,6 +1,6 @@
 -- Units whose rows their locks cover, through a quiet call; and the unit that effects of a part are of.
 use Rattle.std.proofs.Common.{◌≡◌, ◌⊎◌, inl, inr, ℕ, Bool, true, false, List, [], ◌∷◌, ◌++◌, refl, sym, ap, ◌∙◌, subst}
-use Rattle.std.specs.Prelude.{Contains, if◌then◌else◌, nat_eq, Some, None}
+use Rattle.std.specs.Prelude.{Contains, if◌then◌else◌, Some, None}
 use Rattle.std.specs.Option.{option_map_or}
 use Rattle.enq_base.specs.declared.owner.UnitKey.{UnitKey}
 use Rattle.enq_base.specs.declared.unit.Num.{Num}
@@ -35,6 +35,8 @@ use Rattle.cover_laws.proofs.calls.MarkedCalls.{OfMarks, by_marks}
 use Rattle.cover_laws.proofs.calls.QuietCalls.{by_stored, none_in_flight}
 use Rattle.cover_laws.proofs.needed.HallNeeded.{AreWell, FirstPartsStand, IsWell, SecondPartsStand, WellStays}
 use Rattle.cover_laws.specs.Histories.{IsCommitBy, IsDone}
+use Rattle.ledger_steps.specs.declared.part.Part.{Part}
+use Rattle.ledger_steps.specs.Parts.{is_first}
 
 -- ---- units that are done with
 
@@ -69,8 +71,8 @@ done_numbers : (ledger : Ledger) (key unit : UnitKey) (numbers : List Num) → I
 done_numbers ledger key unit numbers =
     done_on ledger (with_mark ledger key (mark.Num numbers)) unit (λ was on there. numbers_leave ledger key unit numbers ∙ there)
 
-waits_off : (part : ℕ) → is_end (status_for part) ≡ false
-waits_off part = elim (nat_eq part 1) as (λ b. is_end (if b then status.Open else status.Posted) ≡ false) [ true ↦ refl | false ↦ refl ]
+waits_off : (part : Part) → is_end (status_for part) ≡ false
+waits_off part = elim (is_first part) as (λ b. is_end (if b then status.Open else status.Posted) ≡ false) [ true ↦ refl | false ↦ refl ]
 
 may_off : (was : Status) → may_cancel was ≡ true → is_end was ≡ false
 may_off status.Open may = refl

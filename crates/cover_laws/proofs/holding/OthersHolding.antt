@@ -1,6 +1,6 @@
 -- Each call of another leaves the open unit of a session the locks that its lines asked for, or it has lost one.
 use Rattle.std.proofs.Common.{◌≡◌, true≢false, ℕ, zero, suc, ◌≤◌, Bool, true, false, ◌&&◌, List, [], ◌++◌, fold, refl, sym, ap, ◌∙◌, subst, arith}
-use Rattle.std.specs.Prelude.{if◌then◌else◌, nat_eq, Option, Some, None}
+use Rattle.std.specs.Prelude.{if◌then◌else◌, Option, Some, None}
 use Rattle.std.specs.Option.{option_map}
 use Rattle.std.specs.Str.{bytes_eq}
 use Rattle.std.proofs.lemmas.Bool.{and_from, false≢true}
@@ -50,6 +50,8 @@ use Rattle.cover_laws.proofs.sessions.NamedSessions.{KeepsNames, bereft_named, f
 use Rattle.cover_laws.proofs.Lists.{mapped_from, none_from}
 use Rattle.cover_laws.proofs.calls.DrawnAlone.{drawn_locks, raised_start}
 use Rattle.cover_laws.proofs.holding.FailedOver.{list_found}
+use Rattle.ledger_steps.specs.declared.part.Part.{Part}
+use Rattle.ledger_steps.specs.Parts.{is_first}
 
 -- ---- where there is no lock server
 
@@ -73,10 +75,10 @@ at_most (suc m) n few = absurd (few (omega arith))
 
 -- ---- locks that go with a recorded unit
 
-freed_by_post : (part : ℕ) (P : List Entry → Type 0) (locks : List Entry) (unit : UnitKey) → P (freed_owner locks (Upd unit)) → P locks
+freed_by_post : (part : Part) (P : List Entry → Type 0) (locks : List Entry) (unit : UnitKey) → P (freed_owner locks (Upd unit)) → P locks
     → P (locks_behind part locks unit)
 freed_by_post part P locks unit p q =
-    elim (nat_eq part 1) as (λ b. P (if b then freed_owner locks (Upd unit) else locks)) [ true ↦ p | false ↦ q ]
+    elim (is_first part) as (λ b. P (if b then freed_owner locks (Upd unit) else locks)) [ true ↦ p | false ↦ q ]
 
 freed_by_cancel : (status : Status) (P : List Entry → Type 0) (locks : List Entry) (unit : UnitKey) → P (freed_owner locks (Upd unit)) → P locks
     → P (locks_without status locks unit)
@@ -220,7 +222,7 @@ module _ (asks : AskingLeaves) (frees : OthersFreeingLeaves) (ends : OwnerFreein
         let t : State = record s { orders = orders } in
         leaves_other t (beside t refl (λ on. on) refl refl) (λ x here holds. holds)
 
-    posted_stands : (part worker : ℕ) (unit : UnitKey) → status_in s.stored unit ≡ Some (status_for part)
+    posted_stands : (part : Part) (worker : ℕ) (unit : UnitKey) → status_in s.stored unit ≡ Some (status_for part)
         → StandsAt (marked part s worker unit (kind_for part (found.part part unit))) name held
     posted_stands part worker unit waits =
         let t = marked part s worker unit (kind_for part (found.part part unit)) in

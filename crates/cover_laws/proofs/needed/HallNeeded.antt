@@ -17,8 +17,8 @@ use Rattle.ledger_steps.specs.Steps.{IsOpenUnit, IsPostedUnit}
 use Rattle.update_records.specs.Ledger.{Ledger}
 use Rattle.update_records.specs.Marks.{status_of, v1_of, v2_of}
 use Rattle.update_records.specs.declared.records.Unit.{Unit as UnitOfWork}
-use Rattle.hall_model.specs.Kept.{HasFew, HasLanding, HasSoundLocks, IsSteady, HasOpenUnits}
-use Rattle.hall_model.specs.OpenUnits.{OfPending}
+use Rattle.hall_model.specs.Kept.{HasFew, HasStateInFlight, HasSoundLocks, IsSteady, HasOpenUnits}
+use Rattle.hall_model.specs.OpenUnits.{OfInFlight}
 use Rattle.hall_model.specs.Recall.{IsModelAnswer, Made, recalled, state_after}
 use Rattle.hall_model.specs.Sessions.{session_at, unit_key}
 use Rattle.hall_model.specs.State.{State}
@@ -41,7 +41,7 @@ pub record IsReached (s : State) : Type 0 where
   pub steady : IsSteady s
   pub sound : HasSoundLocks s
   pub open_units : HasOpenUnits s
-  pub landing : OfPending s.pending (HasLanding s)
+  pub state_in_flight : OfInFlight s.in_flight (HasStateInFlight s)
   pub link_told : s.link_told ≡ true
 
 abbrev pub IsSure : State → Type 0

@@ -177,7 +177,7 @@ drawn_goes name s x i number =
       | false ↦ changed_goes name s x change s.stored.start (λ n y. refl) later refl
     ]
 
-each_goes : (name : List ℕ) (found : Found) (s : State) → s.pending ≡ None → OfEach (λ call v. GoesOn name s (judged s v).state) found s
+each_goes : (name : List ℕ) (found : Found) (s : State) → s.in_flight ≡ None → OfEach (λ call v. GoesOn name s (judged s v).state) found s
 each_goes name found s none = record {
   refuses = λ call r plain. stays name s;
   enters = λ other user free. record {

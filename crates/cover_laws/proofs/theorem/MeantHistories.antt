@@ -109,7 +109,7 @@ first_right first h =
         steady = kept.steady;
         sound = kept.sound;
         open_units = kept.open_units;
-        landing = kept.landing;
+        state_in_flight = kept.state_in_flight;
         link_told = ap (λ s. s.link_told) h.start;
       };
       told = ap (λ s. s.told) h.start;
@@ -122,7 +122,7 @@ next_right s m h answer =
       holds = record { few = reached.few; steady = reached.steady };
       sound = reached.sound;
       open_units = reached.open_units;
-      landing = reached.landing;
+      state_in_flight = reached.state_in_flight;
     } in
     let after : HoldsAll (reached.calls + 1) (recalled s m) = step_all reached.calls m.outcome s m.call.line m.call.command answer.allowed before in
     let tells = recalled-tells s m in
@@ -133,7 +133,7 @@ next_right s m h answer =
         steady = after.holds.steady;
         sound = after.sound;
         open_units = after.open_units;
-        landing = after.landing;
+        state_in_flight = after.state_in_flight;
         link_told = tells.link_told ∙ reached.link_told;
       };
       told = tells.told ∙ h.told;

@@ -1,6 +1,6 @@
 -- What a stop may leave behind a call.
 use Rattle.std.proofs.Common.{◌≡◌, ◌⊎◌, inl, ℕ, List, true, false, refl, sym, subst}
-use Rattle.std.specs.Prelude.{nat_eq, Option, Some, None, IfSome, is_some, if◌then◌else◌}
+use Rattle.std.specs.Prelude.{Option, Some, None, IfSome, is_some, if◌then◌else◌}
 use Rattle.std.specs.Option.{option_map}
 use Rattle.enq_base.specs.declared.condition.Condition.{Condition}
 use Rattle.enq_base.specs.declared.owner.UnitKey.{UnitKey}
@@ -16,7 +16,7 @@ use Rattle.ledger_steps.specs.declared.step.Outcome.TheVariants as outcome
 use Rattle.update_records.specs.Ledger.{Ledger, StandFor}
 use Rattle.hall_calls.specs.Written.{OnAnswer, OnFailure, OnStoreFailure, written_condition, written_failure}
 use Rattle.hall_model.specs.Kept.{OutsideDoubt}
-use Rattle.hall_calls.specs.Leaving.{HasStoreCause, KeepsStore, LeavesWritten, StandForKnown, StandForLanded, StandForWritten}
+use Rattle.hall_calls.specs.Leaving.{HasStoreCause, KeepsStore, LeavesWritten, StandForKnown, StandForWritten, StandOrInFlight}
 use Rattle.hall_model.specs.History.{known_behind}
 use Rattle.hall_calls.specs.Remaking.{LeavesKnown, LeavesRemade, OnNotRemade, OnRefusedFirst, OnRemade, flight_over, remade_condition, remade_failure}
 use Rattle.hall_calls.specs.declared.remaking.Remade.{Remade}
@@ -29,6 +29,8 @@ use Rattle.model_laws.proofs.PlainRefusals.{IsPlain}
 use Rattle.hall_calls.specs.declared.units.Written.{Written}
 use Rattle.hall_calls.specs.declared.units.Written.TheVariants.{Answered, Failed, Unfiled}
 use Rattle.model_laws.proofs.OutsideDoubt.{outside_any}
+use Rattle.ledger_steps.specs.declared.part.Part.{Part}
+use Rattle.ledger_steps.specs.Parts.{is_first}
 
 -- ---- a call that writes the store
 
@@ -50,12 +52,12 @@ told_too None before P e h = tt
 told_too (Some rows) None P e h = cc
 told_too (Some rows) (Some other) P e h = h
 
-lands : (before : Option Rows) (may_leave : Rows → Type 0) (old : Ledger) (said : Step) (change : Step)
+stands_or_in_flight : (before : Option Rows) (may_leave : Rows → Type 0) (old : Ledger) (said : Step) (change : Step)
     → IfSome before (λ _. after_step old said ≡ after_step old change)
     → IfSome before (λ _. (left : Rows) → may_leave left → StandForEither left old said)
-    → IfSome before (λ _. (left : Rows) → may_leave left → StandForLanded left old (Some change))
-lands None may_leave old said change is h = tt
-lands (Some rows) may_leave old said change is h = λ left may. subst (λ l. StandFor left old ⊎ StandFor left l) is (h left may)
+    → IfSome before (λ _. (left : Rows) → may_leave left → StandOrInFlight left old (Some change))
+stands_or_in_flight None may_leave old said change is h = tt
+stands_or_in_flight (Some rows) may_leave old said change is h = λ left may. subst (λ l. StandFor left old ⊎ StandFor left l) is (h left may)
 
 pub where_told : (told : Option Rows) (P : Type 0) → P → IfSome told (λ _. P)
 where_told None P h = tt
@@ -65,15 +67,15 @@ where_told (Some rows) P h = h
 pub failed_leaves : (held before : Option Rows) (may_leave : Rows → Type 0) (ledger old : Ledger) (said : Step) (change : Step) → is_some held ≡ is_some before
     → ledger ≡ old → IfSome before (λ _. after_step old said ≡ after_step old change)
     → IfSome before (λ _. (left : Rows) → may_leave left → StandForEither left old said)
-    → IfSome held (λ _. (left : Rows) → may_leave left → StandForLanded left ledger (Some change))
+    → IfSome held (λ _. (left : Rows) → may_leave left → StandOrInFlight left ledger (Some change))
 failed_leaves held before may_leave ledger old said change told kept is h =
-    told_too held before ((left : Rows) → may_leave left → StandForLanded left ledger (Some change)) told
-    (subst (λ l. IfSome before (λ _. (left : Rows) → may_leave left → StandForLanded left l (Some change))) (sym kept)
-    (lands before may_leave old said change is h))
+    told_too held before ((left : Rows) → may_leave left → StandOrInFlight left ledger (Some change)) told
+    (subst (λ l. IfSome before (λ _. (left : Rows) → may_leave left → StandOrInFlight left l (Some change))) (sym kept)
+    (stands_or_in_flight before may_leave old said change is h))
 
 before_change : (before : Option Rows) (may_leave was : Rows → Type 0) (ledger old : Ledger) (change : Option Step) → ledger ≡ old → IsWithin may_leave was
     → IfSome before (λ _. (left : Rows) → was left → StandFor left old)
-    → IfSome before (λ _. (left : Rows) → may_leave left → StandForLanded left ledger change)
+    → IfSome before (λ _. (left : Rows) → may_leave left → StandOrInFlight left ledger change)
 before_change None may_leave was ledger old change kept within h = tt
 before_change (Some rows) may_leave was ledger old change kept within h =
     λ left may. inl (subst (StandFor left) (sym kept) (h left (within left may)))
@@ -82,16 +84,16 @@ before_change (Some rows) may_leave was ledger old change kept within h =
 pub unread_leaves : (held before : Option Rows) (may_leave was : Rows → Type 0) (ledger old : Ledger) (change : Option Step) → is_some held ≡ is_some before
     → ledger ≡ old → IsWithin may_leave was
     → IfSome before (λ _. (left : Rows) → was left → StandFor left old)
-    → IfSome held (λ _. (left : Rows) → may_leave left → StandForLanded left ledger change)
+    → IfSome held (λ _. (left : Rows) → may_leave left → StandOrInFlight left ledger change)
 unread_leaves held before may_leave was ledger old change told kept within h =
-    told_too held before ((left : Rows) → may_leave left → StandForLanded left ledger change) told
+    told_too held before ((left : Rows) → may_leave left → StandOrInFlight left ledger change) told
     (before_change before may_leave was ledger old change kept within h)
 
-pub posted_quiet : (part : ℕ) (unit : UnitKey) (o : Outcome) (n m : ℕ) → m ≡ n → HasStoreCause n m (posted_reply part unit o)
+pub posted_quiet : (part : Part) (unit : UnitKey) (o : Outcome) (n m : ℕ) → m ≡ n → HasStoreCause n m (posted_reply part unit o)
 posted_quiet part unit outcome.Done n m h =
-    elim (nat_eq part 1) as (λ b. HasStoreCause n m (if b then reply.Posted unit else reply.Closed unit)) [ true ↦ h | false ↦ h ]
+    elim (is_first part) as (λ b. HasStoreCause n m (if b then reply.Posted unit else reply.Closed unit)) [ true ↦ h | false ↦ h ]
 posted_quiet part unit (outcome.Refused index reason) n m h =
-    elim (nat_eq part 1) as (λ b. HasStoreCause n m (if b then reply.Bad unit index reason else reply.Bad2 unit index reason)) [ true ↦ h | false ↦ h ]
+    elim (is_first part) as (λ b. HasStoreCause n m (if b then reply.Bad unit index reason else reply.Bad2 unit index reason)) [ true ↦ h | false ↦ h ]
 
 -- a refusal that shows no failure leaves the count of faults
 pub plain_quiet : (r : Refusal) (n m : ℕ) → m ≡ n → IsPlain r → HasStoreCause n m (reply.Refused r)
@@ -117,17 +119,17 @@ same_keeps held may_leave old new (reply.Row text) is = subst (λ k. KeepsStore 
 same_keeps held may_leave old new _ is = tt
 
 -- a part that was tried isn't refused by the call
-pub posted_keeps : {K : Type 0} (held : K → Option Rows) (may_leave : K → Rows → Type 0) (old new : K) (part : ℕ) (unit : UnitKey) (o : Outcome)
+pub posted_keeps : {K : Type 0} (held : K → Option Rows) (may_leave : K → Rows → Type 0) (old new : K) (part : Part) (unit : UnitKey) (o : Outcome)
     → KeepsStore held may_leave old new (posted_reply part unit o)
 posted_keeps held may_leave old new part unit outcome.Done =
-    elim (nat_eq part 1) as (λ b. KeepsStore held may_leave old new (if b then reply.Posted unit else reply.Closed unit)) [ true ↦ tt | false ↦ tt ]
+    elim (is_first part) as (λ b. KeepsStore held may_leave old new (if b then reply.Posted unit else reply.Closed unit)) [ true ↦ tt | false ↦ tt ]
 posted_keeps held may_leave old new part unit (outcome.Refused index reason) =
-    elim (nat_eq part 1) as (λ b. KeepsStore held may_leave old new (if b then reply.Bad unit index reason else reply.Bad2 unit index reason))
+    elim (is_first part) as (λ b. KeepsStore held may_leave old new (if b then reply.Bad unit index reason else reply.Bad2 unit index reason))
     [ true ↦ tt | false ↦ tt ]
 
 -- ---- the hall behind it
 
-stands_after : (left : Rows) (ledger : Ledger) (f : Failure) (caller : Option (List ℕ)) (w : Written) → f.pending ≡ None → f.found ≡ None
+stands_after : (left : Rows) (ledger : Ledger) (f : Failure) (caller : Option (List ℕ)) (w : Written) → f.in_flight ≡ None → f.found ≡ None
     → StandForWritten left ledger w
     → StandForKnown (written_failure f caller w).found left ledger (flight_over ledger (written_failure f caller w))
 stands_after left ledger f caller (Answered r) none unknown h =
@@ -137,7 +139,7 @@ stands_after left ledger f caller (Failed step) none unknown h =
 stands_after left ledger f caller Unfiled none unknown h =
     subst (λ k. StandForKnown k left ledger (flight_over ledger f)) (sym unknown) (inl h)
 
-leaves_for : (held : Option Rows) (may_leave : Rows → Type 0) (ledger : Ledger) (f : Failure) (caller : Option (List ℕ)) (w : Written) → f.pending ≡ None
+leaves_for : (held : Option Rows) (may_leave : Rows → Type 0) (ledger : Ledger) (f : Failure) (caller : Option (List ℕ)) (w : Written) → f.in_flight ≡ None
     → f.found ≡ None
     → IfSome held (λ _. (left : Rows) → may_leave left → StandForWritten left ledger w)
     → IfSome held (λ _. (left : Rows) → may_leave left → StandForKnown (written_failure f caller w).found left ledger
@@ -148,7 +150,7 @@ leaves_for (Some rows) may_leave ledger f caller w none unknown h = λ left may.
 -- behind a call of a server that wasn't in doubt
 pub leaves_after : {K : Type 0} (held : K → Option Rows) (may_leave : K → Rows → Type 0) (shelf : BooksView K) (f now : Failure) (caller : Option (List ℕ))
     (w : Written)
-    → now ≡ written_failure f caller w → f.pending ≡ None → f.found ≡ None → LeavesWritten held may_leave shelf w
+    → now ≡ written_failure f caller w → f.in_flight ≡ None → f.found ≡ None → LeavesWritten held may_leave shelf w
     → LeavesKnown held may_leave shelf.keeper now.found shelf.ledger (flight_over shelf.ledger now)
 leaves_after held may_leave shelf f now caller w is none unknown h =
     subst (λ (q : Failure). LeavesKnown held may_leave shelf.keeper q.found shelf.ledger (flight_over shelf.ledger q)) (sym is)

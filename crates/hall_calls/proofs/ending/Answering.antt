@@ -1,7 +1,7 @@
 -- All that a call does, where it is served and where it isn't.
 use Rattle.std.proofs.Common.{◌≡◌, ℕ, Bool, true, false, List, is_some, refl, sym, ◌∙◌, subst}
 use Rattle.std.specs.Prelude.{IsTrue, Option, Some, None}
-use Rattle.enq_server.proofs.lemmas.Following.{keeps_none}
+use Rattle.enq_server.proofs.lemmas.Replicas.{keeps_none}
 use Rattle.keeper_api.specs.Rows.{Rows}
 use Rattle.lock_entry.specs.Table.{IsTable}
 use Rattle.lock_entry.specs.declared.entry.Entry.{Entry}
@@ -20,8 +20,8 @@ use Rattle.hall_calls.specs.Serving.{Follows, IsAnswered, Serves, with_calls}
 use Rattle.hall_calls.specs.View.{View}
 use Rattle.hall_calls.proofs.HistoryRoom.{has_room}
 use Rattle.hall_calls.proofs.lemmas.WithHistory.{file_cause, file_kept, not_barred, refused_file, refused_room, refused_store, refused_telling, same_as_filed, same_keeper, shut_plain, store_caused, store_kept, store_told, store_within}
-use Rattle.hall_calls.proofs.following.EachCall.{any_link, plain_link, refused_over}
-use Rattle.hall_calls.proofs.following.ToldLists.{good_replica}
+use Rattle.hall_calls.proofs.replica.EachCall.{any_link, plain_link, refused_over}
+use Rattle.hall_calls.proofs.replica.ToldLists.{good_replica}
 use Rattle.hall_calls.proofs.lemmas.GoodFiles.{file_sound, others_sound, refused_sound, store_sound}
 use Rattle.hall_calls.proofs.verdicts.FoundChange.{tells_none}
 
@@ -36,7 +36,7 @@ module _ {K D L : Type 0} {held : K → Option Rows} {may_leave : K → Rows →
 
   -- a call that isn't served
   pub refused_answered : (v : View K D L) (past : List PastEntry) (c : Command) (r : Refusal) → unavailable (with_calls v.state past) (call_of c) ≡ Some r
-      → IsTable (record { entries = v.state.locks; limit = v.state.limit }) → v.state.link_told ≡ is_some (applied v.follower.link)
+      → IsTable (record { entries = v.state.locks; limit = v.state.limit }) → v.state.link_told ≡ is_some (applied v.replica.link)
       → IsAnswered held may_leave faults tells disk_faults gives applied link_faults refusals v v past c (record { reply = reply.Refused r; taken = false })
   refused_answered v past c r shut table link =
       let s : State = with_calls v.state past in
@@ -45,7 +45,7 @@ module _ {K D L : Type 0} {held : K → Option Rows} {may_leave : K → Rows →
       let filed = refused_file disk_faults v.file s (call_of c) r shut in
       let sound = refused_sound s (call_of c) r shut in
       let plain = shut_plain s (call_of c) r shut in
-      let keeps = keeps_none applied link_faults refusals v.follower in
+      let keeps = keeps_none applied link_faults refusals v.replica in
       record {
         call = telling;
         told = refl;
@@ -56,10 +56,10 @@ module _ {K D L : Type 0} {held : K → Option Rows} {may_leave : K → Rows →
         file_cause = filed.cause;
         file = λ off. filed.kept;
         unfiled = λ off. refl;
-        link = any_link applied link_faults refusals v.follower v.follower false keeps;
-        follower = λ off. keeps;
-        over = refused_over (fails_over (call_of c)) v.state.locks (gives v.follower.link) r plain;
-        link_cause = plain_link r (link_faults v.follower.link) (link_faults v.follower.link) plain;
+        link = any_link applied link_faults refusals v.replica v.replica false keeps;
+        replica = λ off. keeps;
+        over = refused_over (fails_over (call_of c)) v.state.locks (gives v.replica.link) r plain;
+        link_cause = plain_link r (link_faults v.replica.link) (link_faults v.replica.link) plain;
         room = refused_room s (call_of c) r shut;
         good_file = λ yes honest. file_sound (reply.Refused r) sound;
         good_store = λ yes. store_sound (reply.Refused r) sound;
@@ -70,7 +70,7 @@ module _ {K D L : Type 0} {held : K → Option Rows} {may_leave : K → Rows →
   pub served_answered : {old new : View K D L} {past : List PastEntry} {c : Command} {a : Answer}
       → Serves held may_leave faults disk_faults gives applied link_faults refusals old new past c a.reply
       → unavailable (with_calls old.state past) (call_of c) ≡ None
-      → IsTable (record { entries = old.state.locks; limit = old.state.limit }) → old.state.link_told ≡ is_some (applied old.follower.link)
+      → IsTable (record { entries = old.state.locks; limit = old.state.limit }) → old.state.link_told ≡ is_some (applied old.replica.link)
       → IsTelling (with_calls old.state past) c a.taken (with_calls new.state past) a.reply
       → (IsTrue tells → IsTrue (is_honest old.state) → is_unsound_file a.reply ≡ false)
       → (is_some (held old.keeper) ≡ true → is_unsound_store a.reply ≡ false)
@@ -88,8 +88,8 @@ module _ {K D L : Type 0} {held : K → Option Rows} {may_leave : K → Rows →
         file_cause = file_cause disk_faults old.file new.file s c after a.reply served.call served.file;
         file = file_kept disk_faults old.file new.file s c after a.reply served.call served.file;
         unfiled = same_as_filed disk_faults old.file new.file c a.reply served.file;
-        link = any_link applied link_faults refusals old.follower new.follower (renews_replica (call_of c)) served.follower;
-        follower = λ off. subst (λ b. Follows applied link_faults refusals b old.follower new.follower) off served.follower;
+        link = any_link applied link_faults refusals old.replica new.replica (renews_replica (call_of c)) served.replica;
+        replica = λ off. subst (λ b. Follows applied link_faults refusals b old.replica new.replica) off served.replica;
         over = served.over;
         link_cause = served.link;
         room = λ noted. has_room s (call_of c) (not_barred s (call_of c) free);
@@ -102,7 +102,7 @@ module _ {K D L : Type 0} {held : K → Option Rows} {may_leave : K → Rows →
   pub other_answered : {old new : View K D L} {past : List PastEntry} {c : Command} {r : Reply}
       → Serves held may_leave faults disk_faults gives applied link_faults refusals old new past c r
       → unavailable (with_calls old.state past) (call_of c) ≡ None
-      → IsTable (record { entries = old.state.locks; limit = old.state.limit }) → old.state.link_told ≡ is_some (applied old.follower.link)
+      → IsTable (record { entries = old.state.locks; limit = old.state.limit }) → old.state.link_told ≡ is_some (applied old.replica.link)
       → restarts (call_of c) ≡ false
       → IsAnswered held may_leave faults tells disk_faults gives applied link_faults refusals old new past c (record { reply = r; taken = false })
   other_answered {old = old} {new = new} {past = past} {c = c} {r = r} served free table link off =

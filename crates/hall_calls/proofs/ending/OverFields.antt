@@ -4,7 +4,7 @@ use Rattle.std.specs.Prelude.{Option, None}
 use Rattle.std.specs.Option.{option_map}
 use Rattle.enq_base.specs.declared.condition.Condition.{Condition}
 use Rattle.enq_base.specs.declared.condition.Condition.TheVariants as condition
-use Rattle.enq_server.specs.Following.{Following, told_list}
+use Rattle.enq_server.specs.Replica.{ReplicaView, told_list}
 use Rattle.keeper_api.specs.Rows.{Rows}
 use Rattle.lock_entry.specs.declared.entry.Entry.{Entry}
 use Rattle.ledger_steps.specs.Steps.{after_step}
@@ -27,7 +27,7 @@ use Rattle.hall_calls.specs.declared.remaking.Remade.TheVariants.{Done, Refused,
 use Rattle.hall_calls.specs.declared.units.Written.{Written}
 use Rattle.hall_calls.specs.declared.units.Written.TheVariants.{Answered, Failed, Unfiled}
 use Rattle.hall_calls.proofs.ending.StateBehind.{HasRanges, LoseAlike, caller_as, caller_of, locks_of, marks_alike, marks_kept, same_flight, without_as, written_state}
-use Rattle.hall_calls.proofs.following.Shipping.{Stays}
+use Rattle.hall_calls.proofs.replica.Shipping.{Stays}
 
 module _ {T K D L : Type 0} where
   -- what a call left of sessions, orders, ranges, books and lock server
@@ -61,13 +61,13 @@ module _ {T K D L : Type 0} (held : K → Option Rows) (applied : L → Option (
   -- the state that these fields are, behind these calls
   abbrev pub state_in : Inside T K D L → List PastEntry → State
   state_in p past =
-      state_of (is_some (held p.books.keeper)) (is_some (applied p.locks.copy.link)) p.locks.copy.attached p.taken_over p.condition p.sessions
-      p.next_session p.orders.items p.locks.table (told_list applied p.locks.copy) p.max_locks p.max_marks p.ranges p.books.ledger
+      state_of (is_some (held p.books.keeper)) (is_some (applied p.locks.replica.link)) p.locks.replica.attached p.taken_over p.condition p.sessions
+      p.next_session p.orders.items p.locks.table (told_list applied p.locks.replica) p.max_locks p.max_marks p.ranges p.books.ledger
       (flight_over p.books.ledger p.failure) p.failure.found p.failure.caller past
 
   -- and with the devices, before any call
   abbrev pub seen : Inside T K D L → View K D L
-  seen p = record { state = state_in p []; keeper = p.books.keeper; file = p.locks.file; follower = p.locks.copy }
+  seen p = record { state = state_in p []; keeper = p.books.keeper; file = p.locks.file; replica = p.locks.replica }
 
   -- what a call leaves where no device fails, but for what follows
   abbrev pub rewritten : (old now : Inside T K D L) → List PastEntry → State
@@ -82,9 +82,9 @@ module _ {T K D L : Type 0} (held : K → Option Rows) (applied : L → Option (
 -- what a call leaves of the lock server, and of what follows its table: a link that tells its list as before, a table with the same limit, and a replica that
 -- is lost only with other locks
 pub record LeavesLocks {T K D L : Type 0} (applied : L → Option (List Entry)) (call : Call) (w : Written) (old now : Inside T K D L) : Type 0 where
-  pub told : is_some (applied now.locks.copy.link) ≡ is_some (applied old.locks.copy.link)
+  pub told : is_some (applied now.locks.replica.link) ≡ is_some (applied old.locks.replica.link)
   pub limit : OnAnswer w ((locks_of applied old.condition old.max_locks now.locks).limit ≡ (locks_of applied old.condition old.max_locks old.locks).limit)
-  pub stays : Stays call old.locks.copy.attached now.locks.copy.attached (locks_of applied old.condition old.max_locks old.locks).entries
+  pub stays : Stays call old.locks.replica.attached now.locks.replica.attached (locks_of applied old.condition old.max_locks old.locks).entries
       (locks_of applied old.condition old.max_locks now.locks).entries
 
 -- what a call that uses the store leaves, before it ends: where a device failed only what the store may have is another
@@ -122,7 +122,7 @@ module _ {T K D L : Type 0} (held : K → Option Rows) (applied : L → Option (
       → IsEnded (standing (left_by old now)) e (length past) old.books.ledger.start (caller_of (call_of c)) w said
       → state_in held applied (stood (left_by old now) e) past
       ≡ written_state (state_in held applied old past) (call_of c)
-      (record (rewritten held applied old now past) { attached = attached_in old.condition now.locks.copy.attached }) w
+      (record (rewritten held applied old now past) { attached = attached_in old.condition now.locks.replica.attached }) w
   ends_as c past (Answered r) old now e said none unfailed left end =
       (λ i. state_in held applied (record (left_by old now) {
         condition = end.condition i;
@@ -134,18 +134,18 @@ module _ {T K D L : Type 0} (held : K → Option Rows) (applied : L → Option (
         told = left.told i;
         link_told = left.locks.told i;
         limit = left.locks.limit i;
-        pending = same_flight old.failure old.books.ledger now.books.ledger none i;
+        in_flight = same_flight old.failure old.books.ledger now.books.ledger none i;
       })
   ends_as c past (Failed change) old now e said none unfailed left end =
       let s : State = state_in held applied old past in
       let call : Call = call_of c in
       let caller : caller_of call ≡ caller_behind old.failure.caller call = sym (caller_as old.failure.caller call unfailed) in
-      let link : is_some (applied e.locks.copy.link) ≡ is_some (applied old.locks.copy.link) =
-      ap (λ (q : Following L). is_some (applied q.link)) end.copy ∙ left.locks.told in
+      let link : is_some (applied e.locks.replica.link) ≡ is_some (applied old.locks.replica.link) =
+      ap (λ (q : ReplicaView L). is_some (applied q.link)) end.replica ∙ left.locks.told in
       let marks : e.sessions ≡ with_marks (had_lock s) old.sessions = marked_so old now e.sessions past left.lost left.sessions end.sessions in
       let doubt : Inside T K D L = record (left_by old now) {
         condition = condition.Doubt (length past + 1);
-        failure = record old.failure { pending = change; caller = caller_of call };
+        failure = record old.failure { in_flight = change; caller = caller_of call };
         locks = e.locks;
       } in
       (λ i. record (state_in held applied (record doubt { condition = end.condition i; failure = end.failure i }) past) { sessions = marks i })
@@ -156,7 +156,7 @@ module _ {T K D L : Type 0} (held : K → Option Rows) (applied : L → Option (
         orders = left.orders i;
         ranges = left.ranges i;
         stored = left.ledger i;
-        pending = option_map (after_step (left.ledger i)) change;
+        in_flight = option_map (after_step (left.ledger i)) change;
         failed_caller = caller i;
       })
       ∙ ap (λ (x : State). doubted x call None (option_map (after_step old.books.ledger) change)) (sym (without_as call s))
@@ -164,8 +164,8 @@ module _ {T K D L : Type 0} (held : K → Option Rows) (applied : L → Option (
       let s : State = state_in held applied old past in
       let call : Call = call_of c in
       let caller : caller_of call ≡ caller_behind old.failure.caller call = sym (caller_as old.failure.caller call unfailed) in
-      let link : is_some (applied e.locks.copy.link) ≡ is_some (applied old.locks.copy.link) =
-      ap (λ (q : Following L). is_some (applied q.link)) end.copy ∙ left.locks.told in
+      let link : is_some (applied e.locks.replica.link) ≡ is_some (applied old.locks.replica.link) =
+      ap (λ (q : ReplicaView L). is_some (applied q.link)) end.replica ∙ left.locks.told in
       let marks : e.sessions ≡ with_marks (had_lock s) old.sessions = marked_so old now e.sessions past left.lost left.sessions end.sessions in
       let doubt : Inside T K D L = record (left_by old now) {
         condition = condition.Doubt (length past + 1);
@@ -179,14 +179,14 @@ module _ {T K D L : Type 0} (held : K → Option Rows) (applied : L → Option (
         link_told = link i;
         orders = left.orders i;
         ranges = left.ranges i;
-        pending = same_flight old.failure old.books.ledger now.books.ledger none i;
+        in_flight = same_flight old.failure old.books.ledger now.books.ledger none i;
         failed_caller = caller i;
       })
 
   -- the fields behind a restart
   pub remade_as : (remade : Remade) (old now : Inside T K D L) (past : List PastEntry)
-      → is_some (held now.books.keeper) ≡ is_some (held old.books.keeper) → is_some (applied now.locks.copy.link) ≡ is_some (applied old.locks.copy.link)
-      → OnRemade remade (now.locks.copy.attached ≡ false) → OnRefusedFirst remade (now.locks ≡ old.locks)
+      → is_some (held now.books.keeper) ≡ is_some (held old.books.keeper) → is_some (applied now.locks.replica.link) ≡ is_some (applied old.locks.replica.link)
+      → OnRemade remade (now.locks.replica.attached ≡ false) → OnRefusedFirst remade (now.locks ≡ old.locks)
       → now.condition ≡ remade_condition old.condition (length past) remade → now.taken_over ≡ remade_over old.taken_over remade
       → now.failure ≡ remade_failure old.failure remade → OnNotRemade remade (now.sessions ≡ old.sessions)
       → OnNotRemade remade (now.orders.items ≡ old.orders.items) → OnNotRemade remade (now.books.ledger ≡ old.books.ledger)

@@ -1,6 +1,6 @@
 -- How calls end that may write the backup file, and what a stop may leave of it.
 use Rattle.std.proofs.Common.{◌≡◌, ◌⊎◌, inl, inr, ℕ, ◌+◌, ◌≤◌, Bool, true, false, not, ◌&&◌, List, refl, sym, ap, ◌∙◌, subst, arith}
-use Rattle.std.specs.Prelude.{if◌then◌else◌, nat_eq, Option, Some, None, IsTrue, Ok, Err}
+use Rattle.std.specs.Prelude.{if◌then◌else◌, Option, Some, None, IsTrue, Ok, Err}
 use Rattle.std.specs.Option.{option_map}
 use Rattle.backup_file.proofs.lemmas.Adding.{ready_same}
 use Rattle.backup_file.specs.Backup.{BackupView, IsReady, IsSame}
@@ -26,7 +26,7 @@ use Rattle.ledger_steps.specs.Views.{open_locks}
 use Rattle.ledger_steps.specs.declared.step.Step.{Step}
 use Rattle.hall_model.specs.Kept.{OutsideDoubt}
 use Rattle.hall_calls.specs.OpenLists.{AgreeAll, AreOpenLists}
-use Rattle.hall_model.specs.OpenUnits.{OfPending}
+use Rattle.hall_model.specs.OpenUnits.{OfInFlight}
 use Rattle.hall_model.specs.History.{known_behind}
 use Rattle.hall_calls.specs.Remaking.{IsLeftReady, OnNotRemade, flight_over, remade_condition, remade_failure}
 use Rattle.hall_model.specs.Step.{posted_reply}
@@ -39,6 +39,8 @@ use Rattle.hall_calls.specs.declared.units.Written.{Written}
 use Rattle.hall_calls.specs.declared.units.Written.TheVariants.{Answered, Failed, Unfiled}
 use Rattle.model_laws.proofs.OutsideDoubt.{outside_any}
 use Rattle.model_laws.proofs.PlainRefusals.{IsPlain}
+use Rattle.ledger_steps.specs.declared.part.Part.{Part}
+use Rattle.ledger_steps.specs.Parts.{is_first}
 
 -- ---- answers and the disk's count of faults
 
@@ -46,11 +48,11 @@ pub plain_file : (r : Refusal) (n m : ℕ) → m ≡ n → IsPlain r → HasFile
 plain_file refusal.BackupFault n m h plain = absurd (cc)
 plain_file _ n m h plain = h
 
-pub posted_file : (part : ℕ) (unit : UnitKey) (o : Outcome) (n m : ℕ) → m ≡ n → HasFileCause n m (posted_reply part unit o)
+pub posted_file : (part : Part) (unit : UnitKey) (o : Outcome) (n m : ℕ) → m ≡ n → HasFileCause n m (posted_reply part unit o)
 posted_file part unit outcome.Done n m h =
-    elim (nat_eq part 1) as (λ b. HasFileCause n m (if b then reply.Posted unit else reply.Closed unit)) [ true ↦ h | false ↦ h ]
+    elim (is_first part) as (λ b. HasFileCause n m (if b then reply.Posted unit else reply.Closed unit)) [ true ↦ h | false ↦ h ]
 posted_file part unit (outcome.Refused index reason) n m h =
-    elim (nat_eq part 1) as (λ b. HasFileCause n m (if b then reply.Bad unit index reason else reply.Bad2 unit index reason)) [ true ↦ h | false ↦ h ]
+    elim (is_first part) as (λ b. HasFileCause n m (if b then reply.Bad unit index reason else reply.Bad2 unit index reason)) [ true ↦ h | false ↦ h ]
 
 -- ---- a file that is as it was
 
@@ -67,11 +69,11 @@ any_file f (reply.Refused r) = refused_file f f r (same_file f)
 any_file f (reply.Row text) = same_file f
 any_file f _ = tt
 
-pub posted_keeps_file : {D : Type 0} (old new : BackupView D) (part : ℕ) (unit : UnitKey) (o : Outcome) → KeepsFile old new (posted_reply part unit o)
+pub posted_keeps_file : {D : Type 0} (old new : BackupView D) (part : Part) (unit : UnitKey) (o : Outcome) → KeepsFile old new (posted_reply part unit o)
 posted_keeps_file old new part unit outcome.Done =
-    elim (nat_eq part 1) as (λ b. KeepsFile old new (if b then reply.Posted unit else reply.Closed unit)) [ true ↦ tt | false ↦ tt ]
+    elim (is_first part) as (λ b. KeepsFile old new (if b then reply.Posted unit else reply.Closed unit)) [ true ↦ tt | false ↦ tt ]
 posted_keeps_file old new part unit (outcome.Refused index reason) =
-    elim (nat_eq part 1) as (λ b. KeepsFile old new (if b then reply.Bad unit index reason else reply.Bad2 unit index reason)) [ true ↦ tt | false ↦ tt ]
+    elim (is_first part) as (λ b. KeepsFile old new (if b then reply.Bad unit index reason else reply.Bad2 unit index reason)) [ true ↦ tt | false ↦ tt ]
 
 -- ---- ends
 
@@ -120,7 +122,7 @@ module _ {D : Type 0} (tells : Bool) (reads : D → List ℕ) (may_leave : D →
   abbrev pub AgreesBoth : Ledger → Option Step → BackupView D → Type 0
   AgreesBoth ledger change file =
       IsTrue tells → (lists : List Handed) × IsReady reads may_leave file lists × AgreeAll ledger lists
-      × OfPending (option_map (after_step ledger) change) (λ l. AgreeAll l lists)
+      × OfInFlight (option_map (after_step ledger) change) (λ l. AgreeAll l lists)
 
   pub failed_files : (ledger : Ledger) (old new : BackupView D) (change : Option Step) → AgreesBoth ledger change new → faults new.disk ≡ faults old.disk
       → Ends ledger old new (Failed change)
@@ -132,11 +134,11 @@ module _ {D : Type 0} (tells : Bool) (reads : D → List ℕ) (may_leave : D →
 
   -- the store failed before anything was written into the file
   pub failed_before : (ledger now : Ledger) (file : BackupView D) (change : Option Step) → Has ledger file → now ≡ ledger
-      → ((lists : List Handed) → AreOpenLists ledger lists → OfPending (option_map (after_step ledger) change) (λ l. AgreeAll l lists))
+      → ((lists : List Handed) → AreOpenLists ledger lists → OfInFlight (option_map (after_step ledger) change) (λ l. AgreeAll l lists))
       → Ends now file file (Failed change)
-  failed_before ledger now file change has is lands =
+  failed_before ledger now file change has is flight =
       subst (λ l. Ends l file file (Failed change)) (sym is)
-      (failed_files ledger file file change (λ t. let h = has.ready t in (h.lists, h.ready, h.just.agree, lands h.lists h.just)) refl)
+      (failed_files ledger file file change (λ t. let h = has.ready t in (h.lists, h.ready, h.just.agree, flight h.lists h.just)) refl)
 
   -- the disk failed
   pub unfiled_files : (ledger : Ledger) (old new : BackupView D)
@@ -250,8 +252,8 @@ module _ {D : Type 0} (tells : Bool) (reads : D → List ℕ) (may_leave : D →
       subst (λ us. AreWaiting (record now { units = us }) units) (sym same.units)
       (subst (λ ms. AreWaiting (record now { units = ledger.units; marks = ms }) units) (sym same.marks) are)
 
-  flight_beside : (ledger : Ledger) (o : Option Ledger) (lists : List Handed) → OfPending o (KeepsUnits ledger) → AgreeAll ledger lists
-      → OfPending o (λ l. AgreeAll l lists)
+  flight_beside : (ledger : Ledger) (o : Option Ledger) (lists : List Handed) → OfInFlight o (KeepsUnits ledger) → AgreeAll ledger lists
+      → OfInFlight o (λ l. AgreeAll l lists)
   flight_beside ledger None lists same h = tt
   flight_beside ledger (Some l) lists same h = agree_beside ledger l lists same h
 
@@ -280,19 +282,26 @@ module _ {D : Type 0} (tells : Bool) (reads : D → List ℕ) (may_leave : D →
   -- ---- the server behind a call
 
   abbrev pub Recover : Condition → Ledger → Option Ledger → Option Bool → BackupView D → Type 0
-  Recover k ledger pending found file = AllRecover tells may_leave k ledger pending found file
+  Recover k ledger in_flight found file = AllRecover tells may_leave k ledger in_flight found file
 
-  no_change : (l : Ledger) (f : Failure) (lists : List Handed) → f.pending ≡ None → OfPending (flight_over l f) (λ x. AgreeAll x lists)
-  no_change l f lists none = subst (λ q. OfPending (option_map (after_step l) q) (λ x. AgreeAll x lists)) (sym none) tt
+  no_change : (l : Ledger) (f : Failure) (lists : List Handed) → f.in_flight ≡ None → OfInFlight (flight_over l f) (λ x. AgreeAll x lists)
+  no_change l f lists none = subst (λ q. OfInFlight (option_map (after_step l) q) (λ x. AgreeAll x lists)) (sym none) tt
 
   -- lists that agree with all that the store may have
-  recovers : (k : Condition) (ledger : Ledger) (pending : Option Ledger) (found : Option Bool) (image : List ℕ) (lists : List Handed) → found ≡ None
+  recovers : (k : Condition) (ledger : Ledger) (in_flight : Option Ledger) (found : Option Bool) (image : List ℕ) (lists : List Handed) → found ≡ None
       → Stands image lists → AgreeAll ledger lists
-      → OfPending pending (λ x. AgreeAll x lists) → OutsideDoubt k (lists ≡ lists_among (open_locks ledger) lists) → RecoversFrom k ledger pending found image
-  recovers k ledger pending found image lists none stands agree landed only =
-      subst (λ q. RecoversFrom k ledger pending q image) (sym none) (record { lists = lists; stands = stands; agree = agree; landed = landed; only = only })
+      → OfInFlight in_flight (λ x. AgreeAll x lists) → OutsideDoubt k (lists ≡ lists_among (open_locks ledger) lists)
+      → RecoversFrom k ledger in_flight found image
+  recovers k ledger in_flight found image lists none stands agree flight_agrees only =
+      subst (λ q. RecoversFrom k ledger in_flight q image) (sym none) (record {
+        lists = lists;
+        stands = stands;
+        agree = agree;
+        flight_agrees = flight_agrees;
+        only = only;
+      })
 
-  stands_after : (ledger : Ledger) (f : Failure) (caller : Option (List ℕ)) (before : Condition) (n : ℕ) (w : Written) (image : List ℕ) → (f.pending ≡ None)
+  stands_after : (ledger : Ledger) (f : Failure) (caller : Option (List ℕ)) (before : Condition) (n : ℕ) (w : Written) (image : List ℕ) → (f.in_flight ≡ None)
       × (f.found ≡ None) → StandsWritten ledger w image
       → RecoversFrom (written_condition before n w) ledger (flight_over ledger (written_failure f caller w)) (written_failure f caller w).found image
   stands_after ledger f caller before n (Answered r) image none h =
@@ -304,7 +313,7 @@ module _ {D : Type 0} (tells : Bool) (reads : D → List ℕ) (may_leave : D →
 
   -- whatever is left of the file behind a call, lists stand in it with which the open units agree
   pub recovers_after : (ledger : Ledger) (file : BackupView D) (f failure : Failure) (caller : Option (List ℕ)) (before now : Condition) (n : ℕ) (w : Written)
-      → (f.pending ≡ None) × (f.found ≡ None) → failure ≡ written_failure f caller w → now ≡ written_condition before n w
+      → (f.in_flight ≡ None) × (f.found ≡ None) → failure ≡ written_failure f caller w → now ≡ written_condition before n w
       → (IsTrue tells → (image : List ℕ) → may_leave file.disk image → StandsWritten ledger w image)
       → Recover now ledger (flight_over ledger failure) failure.found file
   recovers_after ledger file f failure caller before now n w none is doubt h =
@@ -314,9 +323,9 @@ module _ {D : Type 0} (tells : Bool) (reads : D → List ℕ) (may_leave : D →
 
   -- the file is as it was
 
-  pub same_recovers : (k : Condition) (ledger : Ledger) (pending : Option Ledger) (found : Option Bool) (old new : BackupView D) → new ≡ old
-      → Recover k ledger pending found old → Recover k ledger pending found new
-  same_recovers k ledger pending found old new is h = subst (λ f. Recover k ledger pending found f) (sym is) h
+  pub same_recovers : (k : Condition) (ledger : Ledger) (in_flight : Option Ledger) (found : Option Bool) (old new : BackupView D) → new ≡ old
+      → Recover k ledger in_flight found old → Recover k ledger in_flight found new
+  same_recovers k ledger in_flight found old new is h = subst (λ f. Recover k ledger in_flight found f) (sym is) h
 
   pub same_lists : (k : Condition) (ledger : Ledger) (old new : BackupView D) → new ≡ old → OutsideDoubt k (Has ledger old) → OutsideDoubt k (Has ledger new)
   same_lists k ledger old new is h = subst (λ f. OutsideDoubt k (Has ledger f)) (sym is) h
@@ -329,7 +338,7 @@ module _ {D : Type 0} (tells : Bool) (reads : D → List ℕ) (may_leave : D →
         lists = h.lists;
         stands = ready_stands file h.lists image h.ready may;
         agree = h.just.agree;
-        landed = tt;
+        flight_agrees = tt;
         only =
             outside_any k _ h.just.only;
       }

@@ -1,12 +1,12 @@
 -- Calls over the fields of what is present: what a call does that is due, and what holds of all that is present behind it.
 use Rattle.std.proofs.Common.{◌≡◌, ℕ, ◌+◌, ◌≤◌, Bool, true, false, List, [], ◌∷◌, length, is_some, refl, sym, ap, ◌∙◌, subst, arith}
 use Rattle.std.specs.List.{AllByRecursion}
-use Rattle.std.specs.Prelude.{nat_eq, IfSome, IsTrue, Option, None}
+use Rattle.std.specs.Prelude.{IfSome, IsTrue, Option, None}
 use Rattle.enq_base.specs.declared.condition.Condition.{Condition}
 use Rattle.enq_base.specs.declared.condition.Condition.TheVariants.{Up}
-use Rattle.enq_server.specs.Following.{Following, IsLostWith, KeepsOn}
+use Rattle.enq_server.specs.Replica.{IsLostWith, KeepsOn, ReplicaView}
 use Rattle.enq_server.specs.Server.{Server}
-use Rattle.enq_server.proofs.lemmas.Following.{keeps_none}
+use Rattle.enq_server.proofs.lemmas.Replicas.{keeps_none}
 use Rattle.keeper_api.specs.Keeping.{IsOnly}
 use Rattle.keeper_api.specs.Rows.{Rows}
 use Rattle.lock_entry.specs.declared.entry.Entry.{Entry}
@@ -38,9 +38,11 @@ use Rattle.hall_calls.proofs.ending.OverFields.{Leaves, LeavesLocks, ends_as, le
 use Rattle.hall_calls.proofs.ending.OverFile.{beside_images, beside_lists, first_recovers, recovers_after, same_lists, same_recovers}
 use Rattle.hall_calls.proofs.ending.StateBehind.{LoseAlike, caller_of, kept_ranges, none_before, ranges_without, written_act, written_state}
 use Rattle.hall_calls.proofs.lemmas.WithHistory.{acts_as, does_store, due_serving, due_up, outside, posted_limit, posted_stays}
-use Rattle.hall_calls.proofs.following.EachCall.{never_remakes, serves_as}
-use Rattle.hall_calls.proofs.following.Shipping.{shipped, shipped_written, stays_in, stays_same, stays_shipped}
+use Rattle.hall_calls.proofs.replica.EachCall.{never_remakes, serves_as}
+use Rattle.hall_calls.proofs.replica.Shipping.{shipped, shipped_written, stays_in, stays_same, stays_shipped}
 use Rattle.hall_calls.proofs.verdicts.EachCall.{at_state}
+use Rattle.ledger_steps.specs.declared.part.Part.{Part}
+use Rattle.ledger_steps.specs.Parts.{is_first}
 
 -- ---- what a call finds that is due
 
@@ -50,7 +52,7 @@ pub record Finds {T K D L : Type 0} (held : K → Option Rows) (is_open : K → 
   pub usable : IsUsable held is_open old.books
   pub filed : HasOpenLists tells reads disk_may_leave old.books.ledger old.locks.file
   -- no change is in flight
-  pub still : (old.failure.pending ≡ None) × (old.failure.found ≡ None)
+  pub still : (old.failure.in_flight ≡ None) × (old.failure.found ≡ None)
 
 pub finds : {T K D L : Type 0} {held : K → Option Rows} {is_open : K → Type 0} {may_leave : K → Rows → Type 0} {tells : Bool} {reads : D → List ℕ}
     {disk_may_leave : D → List ℕ → Type 0} (applied : L → Option (List Entry)) (old : Inside T K D L) {was : View K D L} {past : List PastEntry} {c : Command}
@@ -178,24 +180,24 @@ locks_same {applied = applied} {call = call} {w = w} {old = old} {now = now} sam
 
 -- a server that is up has changed its table
 pub locks_up : {T K D L : Type 0} {applied : L → Option (List Entry)} {faults refusals : L → ℕ} {call : Call} {w : Written} (old now : Inside T K D L)
-    → ships call ≡ true → KeepsOn applied faults refusals old.locks.copy now.locks.copy → now.locks.table.limit ≡ old.locks.table.limit
-    → IsLostWith old.locks.copy now.locks.copy old.locks.table now.locks.table → LeavesLocks applied call w (up old) now
+    → ships call ≡ true → KeepsOn applied faults refusals old.locks.replica now.locks.replica → now.locks.table.limit ≡ old.locks.table.limit
+    → IsLostWith old.locks.replica now.locks.replica old.locks.table now.locks.table → LeavesLocks applied call w (up old) now
 locks_up {call = call} {w = w} old now may keeps limit lost = record {
   told = keeps.told;
   limit = also_answered (now.locks.table.limit ≡ old.locks.table.limit) w limit;
-  stays = stays_shipped call old.locks.copy.attached now.locks.copy.attached old.locks.table now.locks.table may keeps.kept limit lost;
+  stays = stays_shipped call old.locks.replica.attached now.locks.replica.attached old.locks.table now.locks.table may keeps.kept limit lost;
 }
 
 -- a V1 part has changed it, which a server that is up posts
-pub locks_posted : {T K D L : Type 0} {applied : L → Option (List Entry)} {faults refusals : L → ℕ} {call : Call} {w : Written} (part : ℕ)
-    (old now : Inside T K D L) → ships call ≡ nat_eq part 1 → (nat_eq part 1 ≡ true → old.condition ≡ Up)
-    → KeepsOn applied faults refusals old.locks.copy now.locks.copy → now.locks.table.limit ≡ old.locks.table.limit
-    → IsLostWith old.locks.copy now.locks.copy old.locks.table now.locks.table → (nat_eq part 1 ≡ false → now.locks.copy ≡ old.locks.copy)
+pub locks_posted : {T K D L : Type 0} {applied : L → Option (List Entry)} {faults refusals : L → ℕ} {call : Call} {w : Written} (part : Part)
+    (old now : Inside T K D L) → ships call ≡ is_first part → (is_first part ≡ true → old.condition ≡ Up)
+    → KeepsOn applied faults refusals old.locks.replica now.locks.replica → now.locks.table.limit ≡ old.locks.table.limit
+    → IsLostWith old.locks.replica now.locks.replica old.locks.table now.locks.table → (is_first part ≡ false → now.locks.replica ≡ old.locks.replica)
     → LeavesLocks applied call w old now
-locks_posted {applied = applied} {call = call} {w = w} part old now is on keeps limit lost copies = record {
+locks_posted {applied = applied} {call = call} {w = w} part old now is on keeps limit lost replicas = record {
   told = keeps.told;
-  limit = also_answered _ w (posted_limit applied old.condition old.max_locks part old.locks now.locks limit on copies);
-  stays = posted_stays applied old.condition old.max_locks part call old.locks now.locks is on limit copies keeps.kept lost;
+  limit = also_answered _ w (posted_limit applied old.condition old.max_locks part old.locks now.locks limit on replicas);
+  stays = posted_stays applied old.condition old.max_locks part call old.locks now.locks is on limit replicas keeps.kept lost;
 }
 
 -- neither sessions nor orders nor ranges have changed
@@ -279,13 +281,13 @@ module _ {T K D L : Type 0} (held : K → Option Rows) (applied : L → Option (
       let none : flight_over old.books.ledger old.failure ≡ None =
       outside old.condition (flight_over old.books.ledger old.failure ≡ None) serving due.kept.steady.settled in
       let unfailed : old.failure.caller ≡ None = outside old.condition (old.failure.caller ≡ None) serving due.kept.steady.unfailed in
-      let on : Bool = attached_in old.condition now.locks.copy.attached in
+      let on : Bool = attached_in old.condition now.locks.replica.attached in
       let put : State = rewritten held applied old now past in
       let after : State = written_state s (call_of c) (record put { attached = on }) w in
       let act : IsAct s c after (written_reply w) =
       written_act s c (record put { attached = on }) w
       (shipped_written s c put on w
-      (stays_in old.condition (call_of c) old.locks.copy.attached now.locks.copy.attached s.locks put.locks left.locks.stays) due.admits refl
+      (stays_in old.condition (call_of c) old.locks.replica.attached now.locks.replica.attached s.locks put.locks left.locks.stays) due.admits refl
       (left.written none due.admits)) in
       acts_as s c after (state_in held applied (stood (left_by old now) e) past) (written_reply w) said act
       (ends_as held applied c past w old now e said none unfailed left end) end.reply
@@ -295,7 +297,7 @@ module _ {K D L : Type 0} {held : K → Option Rows} {may_leave : K → Rows →
   -- a call that touches neither the store nor the file
   pub serves_apart : {old was new : View K D L} {past : List PastEntry} {c : Command} {r said : Reply} → old ≡ was → IsDue was.state past c
       → reaches_store old.state (call_of c) ≡ false → touches_file (call_of c) ≡ false → renews_replica (call_of c) ≡ false
-      → new.keeper ≡ old.keeper → new.file ≡ old.file → KeepsOn applied link_faults refusals old.follower new.follower → said ≡ r
+      → new.keeper ≡ old.keeper → new.file ≡ old.file → KeepsOn applied link_faults refusals old.replica new.replica → said ≡ r
       → (Admits (with_calls old.state past) c → IsAct (with_calls old.state past) c (with_calls new.state past) r)
       → Serves held may_leave faults disk_faults gives applied link_faults refusals was new past c said
   serves_apart {old = old} {new = new} {past = past} {c = c} {said = said} is due off unfiled still keeper file keeps same act =
@@ -313,8 +315,8 @@ module _ {K D L : Type 0} {held : K → Option Rows} {may_leave : K → Rows →
   -- a call that the lock server alone answers
   pub serves_locked : {T : Type 0} (old now : Inside T K D L) {was : View K D L} {past : List PastEntry} {c : Command} {r said : Reply}
       → seen held applied old ≡ was → IsDue was.state past c → is_of_locks (call_of c) ≡ true → now.locks.file ≡ old.locks.file
-      → KeepsOn applied link_faults refusals old.locks.copy now.locks.copy → now.locks.table.limit ≡ old.locks.table.limit
-      → IsLostWith old.locks.copy now.locks.copy old.locks.table now.locks.table → said ≡ r
+      → KeepsOn applied link_faults refusals old.locks.replica now.locks.replica → now.locks.table.limit ≡ old.locks.table.limit
+      → IsLostWith old.locks.replica now.locks.replica old.locks.table now.locks.table → said ≡ r
       → (Admits (state_in held applied (up old) past) c → IsAct (state_in held applied (up old) past) c
       (record (state_in held applied (up old) past) { sessions = now.sessions; locks = now.locks.table.entries }) r)
       → Serves held may_leave faults disk_faults gives applied link_faults refusals was
@@ -327,10 +329,10 @@ module _ {K D L : Type 0} {held : K → Option Rows} {may_leave : K → Rows →
       let later : State = state_in held applied (up new) past in
       let done : State = record s { sessions = now.sessions; locks = now.locks.table.entries } in
       let done_up : Admits s c → IsAct s c later r = λ room.
-      at_state s c (record done { attached = now.locks.copy.attached }) later r
+      at_state s c (record done { attached = now.locks.replica.attached }) later r
       (λ i. record later { limit = sym limit i; link_told = sym keeps.told i })
-      (shipped s c done r now.locks.copy.attached
-      (stays_shipped (call_of c) old.locks.copy.attached now.locks.copy.attached old.locks.table now.locks.table asks.may keeps.kept limit lost)
+      (shipped s c done r now.locks.replica.attached
+      (stays_shipped (call_of c) old.locks.replica.attached now.locks.replica.attached old.locks.table now.locks.table asks.may keeps.kept limit lost)
       room refl (act room)) in
       serves_apart is due (asks.reaches (state_in held applied old [])) asks.touches asks.renews refl file keeps same
       (subst (λ k. Admits (state_in held applied (record old { condition = k }) past) c → IsAct (state_in held applied (record old { condition = k }) past) c
@@ -344,7 +346,7 @@ module _ {K D L : Type 0} {held : K → Option Rows} {may_leave : K → Rows →
       → DoesStore held may_leave faults (restarts (call_of c)) (reaches_store (state_in held applied old []) (call_of c)) old.books.keeper now.books.keeper
       (written_reply w)
       → LeavesFile disk_faults (restarts (call_of c)) (touches_file (call_of c)) old.locks.file now.locks.file (written_reply w)
-      → KeepsOn applied link_faults refusals old.locks.copy now.locks.copy
+      → KeepsOn applied link_faults refusals old.locks.replica now.locks.replica
       → Serves held may_leave faults disk_faults gives applied link_faults refusals was (seen held applied (stood (left_by old now) e)) past c said
   serves_written old now {e = e} {past = past} {c = c} {w = w} {said = said} is due renews end left store file keeps =
       let here : IsDue (state_in held applied old []) past c = subst (λ (v : View K D L). IsDue v.state past c) (sym is) due in
@@ -356,7 +358,7 @@ module _ {K D L : Type 0} {held : K → Option Rows} {may_leave : K → Rows →
       (subst (λ r. DoesStore held may_leave faults (restarts (call_of c)) reaches old.books.keeper now.books.keeper r) (sym end.reply) store)
       (subst (λ (f : BackupView D). LeavesFile disk_faults (restarts (call_of c)) (touches_file (call_of c)) old.locks.file f said) (sym end.file)
       (subst (λ r. LeavesFile disk_faults (restarts (call_of c)) (touches_file (call_of c)) old.locks.file now.locks.file r) (sym end.reply) file))
-      (subst (λ (q : Following L). KeepsOn applied link_faults refusals old.locks.copy q) (sym end.copy) keeps))
+      (subst (λ (q : ReplicaView L). KeepsOn applied link_faults refusals old.locks.replica q) (sym end.replica) keeps))
 
   -- the same of one that wants a server
   pub serves_up : {T : Type 0} (old now : Inside T K D L) {e : Standing D L} {was : View K D L} {past : List PastEntry} {c : Command} {w : Written}
@@ -366,7 +368,7 @@ module _ {K D L : Type 0} {held : K → Option Rows} {may_leave : K → Rows →
       → DoesStore held may_leave faults (restarts (call_of c)) (reaches_store (state_in held applied old []) (call_of c)) old.books.keeper now.books.keeper
       (written_reply w)
       → LeavesFile disk_faults (restarts (call_of c)) (touches_file (call_of c)) old.locks.file now.locks.file (written_reply w)
-      → KeepsOn applied link_faults refusals old.locks.copy now.locks.copy
+      → KeepsOn applied link_faults refusals old.locks.replica now.locks.replica
       → Serves held may_leave faults disk_faults gives applied link_faults refusals was (seen held applied (stood (left_by old now) e)) past c said
   serves_up old now is due wants renews end left store file keeps =
       serves_written old now is due renews end (leaves_up (finds_up held applied old is due wants) left) store file keeps
@@ -389,5 +391,5 @@ module _ {K D L : Type 0} {held : K → Option Rows} {may_leave : K → Rows →
       (does_store held may_leave faults reaches old.books.keeper now.books.keeper r may still))
       (subst (λ b. LeavesFile disk_faults b (touches_file (call_of c)) old.locks.file now.locks.file r) (sym off)
       (subst (λ b. DoesFile disk_faults b old.locks.file now.locks.file r) (sym untouched) (ap (λ (t : Server D L). t.file) same)))
-      (subst (λ (t : Server D L). KeepsOn applied link_faults refusals old.locks.copy t.copy) (sym same)
-      (keeps_none applied link_faults refusals old.locks.copy))
+      (subst (λ (t : Server D L). KeepsOn applied link_faults refusals old.locks.replica t.replica) (sym same)
+      (keeps_none applied link_faults refusals old.locks.replica))

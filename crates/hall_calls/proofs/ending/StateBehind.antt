@@ -1,13 +1,12 @@
 -- The state behind a call that writes the store or makes a lock server anew, answered or in doubt.
-use Rattle.std.proofs.Common.{◌≡◌, ◌⊎◌, inl, inr, ℕ, false, List, [], ◌∷◌, refl, sym, ap, ◌∙◌, subst, arith}
-use Rattle.std.specs.Prelude.{nat_eq, Option, Some, None}
-use Rattle.std.proofs.lemmas.Bool.Decides.{nat_tests}
+use Rattle.std.proofs.Common.{◌≡◌, ℕ, List, [], ◌∷◌, refl, sym, ap, ◌∙◌, subst}
+use Rattle.std.specs.Prelude.{Option, Some, None}
 use Rattle.std.specs.List.{AllByRecursion}
 use Rattle.std.specs.Option.{option_map}
 use Rattle.enq_base.specs.declared.condition.Condition.{Condition}
 use Rattle.enq_base.specs.declared.unit.Num.{Num}
 use Rattle.enq_base.specs.declared.unit.Parts.{Parts}
-use Rattle.enq_server.specs.Following.{told_list}
+use Rattle.enq_server.specs.Replica.{told_list}
 use Rattle.enq_server.specs.Server.{Server}
 use Rattle.lock_entry.specs.Table.{Table}
 use Rattle.lock_entry.specs.declared.entry.Entry.{Entry}
@@ -17,8 +16,8 @@ use Rattle.ledger_steps.specs.Drawn.{passed}
 use Rattle.ledger_steps.specs.declared.range.NumberRange.{NumberRange}
 use Rattle.update_records.specs.Ledger.{Ledger}
 use Rattle.hall_model.specs.Acts.{Admits, IsAct}
-use Rattle.hall_calls.specs.Written.{IsWritten, OnFailure, post_of, ranges_behind, take_of, written_reply}
-use Rattle.hall_model.specs.Calls.{Call, LogsOn, OfSession, OfWorker, OfAdmin, Posts, Takes, call_of, LogsOff, Asks, Frees, FreesAll, Converts, Draws, Reserves, Reads, Commits, RollsBack}
+use Rattle.hall_calls.specs.Written.{IsWritten, OnFailure, ranges_behind, written_reply}
+use Rattle.hall_model.specs.Calls.{Call, LogsOn, OfSession, OfWorker, OfAdmin, call_of, take_of, LogsOff, Asks, Frees, FreesAll, Converts, Draws, Reserves, Reads, Commits, RollsBack}
 use Rattle.hall_model.specs.Devices.{MayBeDone}
 use Rattle.hall_model.specs.History.{caller_behind, doubted, judged, unfiled, without_stock}
 use Rattle.hall_calls.specs.Remaking.{flight_over}
@@ -32,6 +31,8 @@ use Rattle.hall_calls.specs.declared.units.Failure.{Failure}
 use Rattle.hall_calls.specs.declared.units.Written.{Written}
 use Rattle.hall_calls.specs.declared.units.Written.TheVariants.{Answered, Failed, Unfiled}
 use Rattle.hall_calls.proofs.verdicts.EachCall.{tells}
+use Rattle.ledger_steps.specs.declared.part.Part.{Part}
+use Rattle.model_laws.proofs.PartOrders.{take_is}
 
 abbrev pub written_state : State → Call → State → Written → State
 written_state s call after (Answered r) = after
@@ -111,8 +112,8 @@ pub marks_kept : (xs : List Session) → with_marks (λ x. x.marked) xs ≡ xs
 marks_kept [] = refl
 marks_kept (x ∷ xs) = ap (λ ys. x ∷ ys) (marks_kept xs)
 
-pub none_before : (f : Failure) (l : Ledger) → flight_over l f ≡ None → f.pending ≡ None
-none_before f l none = by_case f.pending none
+pub none_before : (f : Failure) (l : Ledger) → flight_over l f ≡ None → f.in_flight ≡ None
+none_before f l none = by_case f.in_flight none
   where
     by_case : (p : Option Step) → option_map (after_step l) p ≡ None → p ≡ None
     by_case None h = refl
@@ -123,29 +124,12 @@ same_flight f l l' none = ap (option_map (after_step l')) (none_before f l none)
 
 -- the table of a server, or what a replica would make of the list that followed one
 abbrev pub locks_of : {D L : Type 0} → (applied : L → Option (List Entry)) → Condition → (max_locks : ℕ) → Server D L → Table
-locks_of applied k max_locks locks = table_for k max_locks locks.table (told_list applied locks.copy)
-
--- one of the two parts of a unit
-abbrev pub IsPart : ℕ → Type 0
-IsPart part = (part ≡ 1) ⊎ (part ≡ 2)
-
--- the part is V2
-pub is_second : (part : ℕ) → (part ≡ 1 → ⊥) → nat_eq part 1 ≡ false
-is_second part h = grind (arith, nat_tests)
-
--- of the calls for both parts
-pub takes_part : (part worker : ℕ) → IsPart part → call_of (take_of part worker) ≡ OfWorker worker (Takes part)
-takes_part part worker (inl e) = subst (λ p. call_of (take_of p worker) ≡ OfWorker worker (Takes p)) (sym e) refl
-takes_part part worker (inr e) = subst (λ p. call_of (take_of p worker) ≡ OfWorker worker (Takes p)) (sym e) refl
-
-pub posts_part : (part worker : ℕ) → IsPart part → call_of (post_of part worker) ≡ OfWorker worker (Posts part)
-posts_part part worker (inl e) = subst (λ p. call_of (post_of p worker) ≡ OfWorker worker (Posts p)) (sym e) refl
-posts_part part worker (inr e) = subst (λ p. call_of (post_of p worker) ≡ OfWorker worker (Posts p)) (sym e) refl
+locks_of applied k max_locks locks = table_for k max_locks locks.table (told_list applied locks.replica)
 
 -- an order that is answered as its command says
-pub taken_call : (part : ℕ) (s : State) (worker : ℕ) (after : State) (r : Reply) → IsPart part → Admits s (take_of part worker)
+pub taken_call : (part : Part) (s : State) (worker : ℕ) (after : State) (r : Reply) → Admits s (take_of part worker)
     → judged s (take part s worker) ≡ record { state = after; reply = r } → IsAct s (take_of part worker) after r
-taken_call part s worker after r is room h =
+taken_call part s worker after r room h =
     tells s (take_of part worker) (take part s worker) after r
-    (subst (λ call. MayBeDone call (take part s worker)) (sym (takes_part part worker is)) tt) room
-    (ap (own_verdict (found_in s) s) (takes_part part worker is)) h
+    (subst (λ call. MayBeDone call (take part s worker)) (sym (take_is part worker)) tt) room
+    (ap (own_verdict (found_in s) s) (take_is part worker)) h

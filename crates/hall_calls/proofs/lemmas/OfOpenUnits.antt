@@ -21,6 +21,7 @@ use Rattle.hall_calls.specs.OpenLists.{AgreeAll, AreOpenLists}
 use Rattle.model_laws.proofs.LockLists.{Among}
 use Rattle.model_laws.proofs.EachLock.{every_at}
 use Rattle.model_laws.proofs.WaitingUnits.{all_open, open_listed}
+use Rattle.ledger_steps.specs.declared.part.Part.TheVariants.{V1}
 
 -- ---- lists
 
@@ -56,10 +57,10 @@ listed_one_of ledger (key ∷ keys) unit h =
     ]
 
 pub one_of_open : (ledger : Ledger) (unit : UnitKey) → IsOpenUnit ledger unit → is_one_of (open_locks ledger) unit ≡ true
-one_of_open ledger unit waits = one_of_listed ledger (waiting_for 1 ledger) unit (open_listed ledger unit waits)
+one_of_open ledger unit waits = one_of_listed ledger (waiting_for V1 ledger) unit (open_listed ledger unit waits)
 
 pub open_of_one : (ledger : Ledger) (unit : UnitKey) → is_one_of (open_locks ledger) unit ≡ true → IsOpenUnit ledger unit
-open_of_one ledger unit h = every_at (IsOpenUnit ledger) (waiting_for 1 ledger) unit (all_open ledger) (listed_one_of ledger (waiting_for 1 ledger) unit h)
+open_of_one ledger unit h = every_at (IsOpenUnit ledger) (waiting_for V1 ledger) unit (all_open ledger) (listed_one_of ledger (waiting_for V1 ledger) unit h)
 
 -- ---- unit by unit
 
@@ -79,7 +80,7 @@ agree_at ledger lists (key ∷ keys) unit h (inr k) = agree_at ledger lists keys
 
 pub each_agree : (ledger : Ledger) (lists : List Handed) → AgreeAll ledger lists → AgreeEach ledger lists
 each_agree ledger lists h unit waits =
-    agree_at ledger lists (waiting_for 1 ledger) unit (recursion_from_All (Agrees lists) (open_locks ledger) h) (open_listed ledger unit waits)
+    agree_at ledger lists (waiting_for V1 ledger) unit (recursion_from_All (Agrees lists) (open_locks ledger) h) (open_listed ledger unit waits)
 
 agree_keys : (ledger : Ledger) (lists : List Handed) (keys : List UnitKey) → AgreeEach ledger lists → AllByRecursion (IsOpenUnit ledger) keys
     → AllByRecursion (Agrees lists) (map (locks_of ledger) keys)
@@ -87,7 +88,7 @@ agree_keys ledger lists [] h waits = tt
 agree_keys ledger lists (key ∷ keys) h waits = (h key waits.0, agree_keys ledger lists keys h waits.1)
 
 pub all_agree : (ledger : Ledger) (lists : List Handed) → AgreeEach ledger lists → AgreeAll ledger lists
-all_agree ledger lists h = All-from_recursion (Agrees lists) (open_locks ledger) (agree_keys ledger lists (waiting_for 1 ledger) h (all_open ledger))
+all_agree ledger lists h = All-from_recursion (Agrees lists) (open_locks ledger) (agree_keys ledger lists (waiting_for V1 ledger) h (all_open ledger))
 
 only_those : (ledger : Ledger) (lists : List Handed) → lists ≡ lists_among (open_locks ledger) lists → AllByRecursion (IsOfOpen ledger) lists
 only_those ledger lists h =

@@ -1,6 +1,6 @@
 -- How calls are answered.
 use Rattle.std.proofs.Common.{◌≡◌, inl, inr, ℕ, Bool, true, false, refl, sym, ap, ◌∙◌, subst}
-use Rattle.std.specs.Prelude.{◌&&◌, not, if◌then◌else◌, nat_eq, IsTrue, Some, None}
+use Rattle.std.specs.Prelude.{◌&&◌, not, if◌then◌else◌, IsTrue, Some, None}
 use Rattle.enq_base.specs.declared.owner.UnitKey.{UnitKey}
 use Rattle.enq_base.specs.declared.condition.Bad.TheVariants as bad
 use Rattle.enq_base.specs.declared.refusal.Refusal.{Refusal}
@@ -20,9 +20,11 @@ use Rattle.hall_model.specs.declared.command.Reply.{Reply}
 use Rattle.hall_model.specs.declared.command.Reply.TheVariants as reply
 use Rattle.model_laws.proofs.ByCall.{OfEach, by_call}
 use Rattle.model_laws.proofs.NotedCalls.{by_noting, finds_none}
-use Rattle.hall_calls.proofs.following.NotedShips.{ships_noted}
+use Rattle.hall_calls.proofs.replica.NotedShips.{ships_noted}
 use Rattle.model_laws.proofs.PlainRefusals.{IsPlain, is_fault}
-use Rattle.hall_calls.proofs.following.Shipping.{lost_wanting}
+use Rattle.hall_calls.proofs.replica.Shipping.{lost_wanting}
+use Rattle.ledger_steps.specs.declared.part.Part.{Part}
+use Rattle.ledger_steps.specs.Parts.{is_first}
 
 -- a failure of store or disk is told, or what they have, or want of memory
 abbrev pub is_fault_reply : Reply → Bool
@@ -60,14 +62,14 @@ done = record { own = refl; noted = refl; no_row = refl }
 of_unit : (unit : UnitKey) → IsPlainReply (reply.Unit unit)
 of_unit unit = record { own = refl; noted = refl; no_row = refl }
 
-posted : (part : ℕ) (unit : UnitKey) (o : Outcome) → IsPlainReply (posted_reply part unit o)
+posted : (part : Part) (unit : UnitKey) (o : Outcome) → IsPlainReply (posted_reply part unit o)
 posted part unit outcome.Done =
-    elim (nat_eq part 1) as (λ b. IsPlainReply (if b then reply.Posted unit else reply.Closed unit)) [
+    elim (is_first part) as (λ b. IsPlainReply (if b then reply.Posted unit else reply.Closed unit)) [
       | true ↦ record { own = refl; noted = refl; no_row = refl }
       | false ↦ record { own = refl; noted = refl; no_row = refl }
     ]
 posted part unit (outcome.Refused index reason) =
-    elim (nat_eq part 1) as (λ b. IsPlainReply (if b then reply.Bad unit index reason else reply.Bad2 unit index reason)) [
+    elim (is_first part) as (λ b. IsPlainReply (if b then reply.Bad unit index reason else reply.Bad2 unit index reason)) [
       | true ↦ record { own = refl; noted = refl; no_row = refl }
       | false ↦ record { own = refl; noted = refl; no_row = refl }
     ]
@@ -305,7 +307,8 @@ row_wanting s c taken after r row h =
     let o = act.outcome in
     let wanting = reply.Refused refusal.NoMemory in
     let by : Event → DeviceOutcome = λ e. record { event = e; reading = o.reading; lost = o.lost } in
-    elim o.event as (λ e. MayLose o.lost e s (call_of c) (call_verdict (found_by o.reading s) s (call_of c)) → takes_flight (by e) ≡ taken → served (by e) s c ≡ record { state = after; reply = r }
+    elim o.event as (λ e. MayLose o.lost e s (call_of c) (call_verdict (found_by o.reading s) s (call_of c)) → takes_flight (by e) ≡ taken
+    → served (by e) s c ≡ record { state = after; reply = r }
     → IsTelling s c taken after wanting) [
       | AllWell ↦ λ may takes same.
           let found = found_by o.reading s in
@@ -317,7 +320,12 @@ row_wanting s c taken after r row h =
           subst (λ t. IsTelling s c taken t wanting) stays (record {
             act = record {
               outcome = record { event = Wanting; reading = o.reading; lost = o.lost };
-              possible = record { reading = act.possible.reading; event = (served_so, told.1); lost = lost_wanting o.lost s (call_of c) (verdict found s c) told.0 may };
+              possible = record {
+                reading = act.possible.reading;
+                event = (served_so, told.1);
+                lost =
+                    lost_wanting o.lost s (call_of c) (verdict found s c) told.0 may;
+              };
               same = refl;
             };
             taken = sym (finds_none o.reading s (call_of c) told.2 act.possible.reading) ∙ takes;

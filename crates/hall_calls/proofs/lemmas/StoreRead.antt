@@ -24,7 +24,7 @@ use Rattle.store_reading.specs.Good.{IsBadPlace}
 use Rattle.update_records.specs.Ledger.{IsGood, Ledger, StandFor}
 use Rattle.hall_model.specs.Devices.{IsAsBefore}
 use Rattle.hall_model.specs.Kept.{IsInFlight, IsKnownRight}
-use Rattle.hall_calls.specs.Leaving.{HasStoreCause, StandForKnown, StandForPending}
+use Rattle.hall_calls.specs.Leaving.{HasStoreCause, StandForInFlight, StandForKnown}
 use Rattle.hall_calls.specs.Remaking.{IsNotTaken, IsReadFault, IsStoreRefusal, IsUnreadInDoubt, LeavesKnown, books_refusal, flight_over, remade_reply}
 use Rattle.hall_model.specs.Step.{stored_anew}
 use Rattle.hall_model.specs.Unsound.{is_unsound_store}
@@ -42,17 +42,17 @@ bad_is_not_good rows table row (inr first) good =
 
 -- ---- what rows stand for that a stop may leave
 
-in_flight : (rows : Rows) (old : Ledger) (change : Option Step) → StandForPending rows (option_map (after_step old) change)
+step_stands : (rows : Rows) (old : Ledger) (change : Option Step) → StandForInFlight rows (option_map (after_step old) change)
     → IsSomeAnd change (λ step. StandFor rows (after_step old step))
-in_flight rows old None h = h
-in_flight rows old (Some step) h = h
+step_stands rows old None h = h
+step_stands rows old (Some step) h = h
 
 one_of_known : (found : Option Bool) (rows : Rows) (old : Ledger) (change : Option Step)
     → StandForKnown found rows old (option_map (after_step old) change) → StandForOneOf rows old change
 one_of_known None rows old change (inl was) = inl was
-one_of_known None rows old change (inr has) = inr (in_flight rows old change has)
+one_of_known None rows old change (inr has) = inr (step_stands rows old change has)
 one_of_known (Some false) rows old change was = inl was
-one_of_known (Some true) rows old change has = inr (in_flight rows old change has)
+one_of_known (Some true) rows old change has = inr (step_stands rows old change has)
 
 -- where rows are told, what is said of those that may be left
 pub told_rows : (held : Option Rows) (P : Type 0) → is_some held ≡ true → IfSome held (λ _. P) → P
@@ -88,10 +88,10 @@ pub read_sound : (held was : Option Rows) (before : Rows → Type 0) (old : Ledg
     (r : Refusal) → IsStoreRefusal intervals fault r → is_some held ≡ is_some was → is_some was ≡ true
     → IfSome was (λ _. (rows : Rows) → before rows → StandForKnown failure.found rows old (flight_over old failure))
     → OnFound fault (IfSome held before) → OnBooks fault (λ f. IfSome held (λ rows. IsOpeningFault false rows f))
-    → OnOther fault (λ ledger. IfSome held (λ rows. StandForOther rows old failure.pending ledger)) → is_unsound_store (reply.Refused r) ≡ false
+    → OnOther fault (λ ledger. IfSome held (λ rows. StandForOther rows old failure.in_flight ledger)) → is_unsound_store (reply.Refused r) ≡ false
 read_sound held was before old failure intervals fault r is same told stand found bad other =
-    refused_so intervals fault r is (not_unsound held before old failure.pending fault one_ledger bad_is_not_good (same ∙ told)
-    (λ rows may. one_of_known failure.found rows old failure.pending
+    refused_so intervals fault r is (not_unsound held before old failure.in_flight fault one_ledger bad_is_not_good (same ∙ told)
+    (λ rows may. one_of_known failure.found rows old failure.in_flight
     (told_rows was ((left : Rows) → before left → StandForKnown failure.found left old (flight_over old failure)) told stand rows may))
     found bad other)
 
@@ -102,7 +102,7 @@ taken_differs old ledger None h = absurd h
 taken_differs old ledger (Some step) h = h.1
 
 flight_stands : (rows : Rows) (old ledger : Ledger) (change : Option Step) → StandFor rows ledger → ledger ≡ old
-    → StandForPending rows (option_map (after_step old) change) → IsInFlight old (option_map (after_step old) change) → ⊥
+    → StandForInFlight rows (option_map (after_step old) change) → IsInFlight old (option_map (after_step old) change) → ⊥
 flight_stands rows old ledger None stands is has differs = has
 flight_stands rows old ledger (Some step) stands is has differs = differs (one_ledger rows (after_step old step) ledger has stands ∙ is)
 
@@ -120,7 +120,7 @@ as_known true false rows old ledger change stands is h right =
 pub known_before : (held was : Option Rows) (before : Rows → Type 0) (old ledger : Ledger) (failure : Failure) (taken : Bool)
     → is_some held ≡ is_some was → is_some was ≡ true
     → IfSome was (λ _. (rows : Rows) → before rows → StandForKnown failure.found rows old (flight_over old failure))
-    → IfSome held (λ _. HasStood before ledger) → IsSettled old failure.pending taken ledger
+    → IfSome held (λ _. HasStood before ledger) → IsSettled old failure.in_flight taken ledger
     → IsKnownRight failure.found old (flight_over old failure) → IsAsBefore failure.found taken
 known_before held was before old ledger failure taken same told stand stood is right =
     let stands = told_rows held (HasStood before ledger) (same ∙ told) stood in
@@ -128,7 +128,7 @@ known_before held was before old ledger failure taken same told stand stood is r
     elim failure.found as (λ found. ((rows : Rows) → before rows → StandForKnown found rows old (flight_over old failure))
     → IsKnownRight found old (flight_over old failure) → IsAsBefore found taken) [
       | None ↦ λ h k. tt
-      | Some known ↦ λ h k. as_known known taken stands.0 old ledger failure.pending stands.2 is (h stands.0 stands.1) k
+      | Some known ↦ λ h k. as_known known taken stands.0 old ledger failure.in_flight stands.2 is (h stands.0 stands.1) k
     ] all right
 
 -- ---- what it has
@@ -163,15 +163,15 @@ read_leaves held is_open may_leave shelf settled old ledger change taken usable 
 
 -- nothing new may be left of one that wasn't
 pub unread_known : {K : Type 0} (held : K → Option Rows) (may_leave : K → Rows → Type 0) (old new : K) (found : Option Bool) (stored : Ledger)
-    (pending : Option Ledger)
-    → is_some (held new) ≡ is_some (held old) → IsWithin (may_leave new) (may_leave old) → LeavesKnown held may_leave old found stored pending
-    → LeavesKnown held may_leave new found stored pending
-unread_known held may_leave old new found stored pending told within h =
+    (in_flight : Option Ledger)
+    → is_some (held new) ≡ is_some (held old) → IsWithin (may_leave new) (may_leave old) → LeavesKnown held may_leave old found stored in_flight
+    → LeavesKnown held may_leave new found stored in_flight
+unread_known held may_leave old new found stored in_flight told within h =
     by_case (held new) (held old) told h
   where
     by_case : (now was : Option Rows) → is_some now ≡ is_some was
-        → IfSome was (λ _. (left : Rows) → may_leave old left → StandForKnown found left stored pending)
-        → IfSome now (λ _. (left : Rows) → may_leave new left → StandForKnown found left stored pending)
+        → IfSome was (λ _. (left : Rows) → may_leave old left → StandForKnown found left stored in_flight)
+        → IfSome now (λ _. (left : Rows) → may_leave new left → StandForKnown found left stored in_flight)
     by_case None was e h = tt
     by_case (Some rows) None e h = absurd (cc)
     by_case (Some rows) (Some other) e h = λ left may. h left (within left may)
@@ -185,7 +185,7 @@ settled_anew old ledger (Some step) true h = h.0
 settled_anew old ledger change false h = h
 
 module _ {K : Type 0} (held : K → Option Rows) (may_leave : K → Rows → Type 0) (faults : K → ℕ) (failure : Failure) (old new : BooksView K) (found : FoundAnew)
-    (is : IsSettled old.ledger failure.pending found.taken found.ledger) where
+    (is : IsSettled old.ledger failure.in_flight found.taken found.ledger) where
   -- it is told with what was read, if that is as before
   pub not_taken : is_some (held new.keeper) ≡ is_some (held old.keeper) → IsWithin (may_leave new.keeper) (may_leave old.keeper)
       → faults new.keeper ≡ faults old.keeper
@@ -206,7 +206,7 @@ module _ {K : Type 0} (held : K → Option Rows) (may_leave : K → Rows → Typ
       record {
         why = subst (λ x. IsReadFault x (Some read)) (sym h.0) tt;
         flight = subst (λ t. IsTrue t → IsInFlight old.ledger (flight_over old.ledger failure)) same
-            (differs old.ledger found.ledger failure.pending found.taken is);
+            (differs old.ledger found.ledger failure.in_flight found.taken is);
         known = subst (IsAsBefore failure.found) same h.2;
         cause = subst (λ x. HasStoreCause (faults old.keeper) (faults new.keeper) (reply.Refused x)) (sym h.0) counts;
         left = subst (λ t. LeavesKnown held may_leave new.keeper (Some t) old.ledger (flight_over old.ledger failure)) same left;

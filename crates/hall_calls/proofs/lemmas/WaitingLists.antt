@@ -36,6 +36,7 @@ use Rattle.hall_calls.proofs.lists.BehindMarks.{SameOpen, entries_recorded, hand
 use Rattle.hall_calls.proofs.lemmas.OfOpenUnits.{one_of_open, open_of_one}
 use Rattle.hall_calls.specs.Commits.{IsOfCommit}
 use Rattle.hall_calls.specs.Filing.{AreWaiting, stays_known}
+use Rattle.ledger_steps.specs.declared.part.Part.TheVariants.{V1}
 
 never : (a : Bool) → (a && false) ≡ false
 never true = refl
@@ -61,7 +62,7 @@ one_is_open ledger unit =
 pub known_waiting : (ledger : Ledger) (units : List UnitId) → AreKnown units (locking (open_locks ledger)) → AreWaiting ledger units
 known_waiting ledger units known = λ unit.
     known unit
-    ∙ locking_one (entries_of ledger.units) (open_locks ledger) unit (own_entries ledger (waiting_for 1 ledger))
+    ∙ locking_one (entries_of ledger.units) (open_locks ledger) unit (own_entries ledger (waiting_for V1 ledger))
     ∙ ap (λ b. b && nat_lt 0 (length (entries_of ledger.units unit))) (one_is_open ledger unit)
 
 -- ---- ledgers with the same open units

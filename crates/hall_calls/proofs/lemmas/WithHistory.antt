@@ -1,6 +1,6 @@
 -- A call, apart from its place in the history and with it.
 use Rattle.std.proofs.Common.{◌≡◌, inl, inr, ℕ, Bool, true, false, List, [], ◌∷◌, refl, sym, ap, ◌∙◌, subst}
-use Rattle.std.specs.Prelude.{if◌then◌else◌, nat_eq, IsTrue, Option, Some, None, is_some}
+use Rattle.std.specs.Prelude.{if◌then◌else◌, IsTrue, Option, Some, None, is_some}
 use Rattle.std.proofs.lemmas.Bool.{and_parts}
 use Rattle.enq_base.specs.declared.condition.Condition.{Condition}
 use Rattle.enq_base.specs.declared.condition.Condition.TheVariants.{Up}
@@ -9,13 +9,13 @@ use Rattle.lock_entry.specs.declared.entry.Entry.{Entry}
 use Rattle.enq_base.specs.declared.condition.Condition.TheVariants as condition
 use Rattle.enq_base.specs.declared.refusal.Refusal.{Refusal}
 use Rattle.enq_base.specs.declared.refusal.Refusal.TheVariants as refusal
-use Rattle.enq_server.specs.Following.{Following, IsLostWith, told_list}
+use Rattle.enq_server.specs.Replica.{IsLostWith, ReplicaView, told_list}
 use Rattle.enq_server.specs.Server.{Server, replicated}
 use Rattle.keeper_api.specs.Keeping.{IsWithin}
 use Rattle.keeper_api.specs.Rows.{Rows}
 use Rattle.hall_model.specs.Acts.{Admits, IsAct, IsTelling}
-use Rattle.hall_calls.specs.Written.{OnFailure, locks_posted, post_of}
-use Rattle.hall_model.specs.Calls.{Call, LogsOn, OfSession, OfWorker, OfAdmin, Kills, FailsOver, Restarts, Attaches, Cancels, Resubmits, SessionCall, LogsOff, Asks, Frees, FreesAll, Converts, Draws, Reserves, Reads, Commits, RollsBack, Takes, Posts, Drops, call_of, restarts, session_touches_file, ships, touches_file, wants_server}
+use Rattle.hall_calls.specs.Written.{OnFailure, locks_posted}
+use Rattle.hall_model.specs.Calls.{Call, post_of, LogsOn, OfSession, OfWorker, OfAdmin, Kills, FailsOver, Restarts, Attaches, Cancels, Resubmits, SessionCall, LogsOff, Asks, Frees, FreesAll, Converts, Draws, Reserves, Reads, Commits, RollsBack, Takes, Posts, Drops, call_of, restarts, session_touches_file, ships, touches_file, wants_server}
 use Rattle.hall_model.specs.Devices.{MayBeDone, all_well, reaches_store, session_reaches_store, session_uses_file, session_uses_store, uses_file, uses_store}
 use Rattle.hall_calls.specs.Filing.{DoesFile, HasFileCause, KeepsFile, MayFile}
 use Rattle.hall_model.specs.History.{IsGiven, Served, is_unrecorded, judged}
@@ -35,15 +35,18 @@ use Rattle.hall_calls.specs.declared.units.Written.TheVariants.{Answered, Failed
 use Rattle.model_laws.proofs.ByCall.{ArePlain, plain_unavailable}
 use Rattle.model_laws.proofs.BarredCalls.{refused_verdict}
 use Rattle.model_laws.proofs.PlainRefusals.{IsPlain}
-use Rattle.hall_calls.proofs.ending.StateBehind.{IsPart, LoseAlike, locks_of, posts_part}
+use Rattle.hall_calls.proofs.ending.StateBehind.{LoseAlike, locks_of}
 use Rattle.model_laws.proofs.NotedCalls.{full_or}
 use Rattle.hall_calls.proofs.verdicts.EachCall.{refused_done}
 use Rattle.hall_calls.proofs.verdicts.FoundChange.{shut_by_history}
 use Rattle.hall_calls.proofs.ending.AfterStop.{plain_quiet, same_keeps, untouched_keeps}
 use Rattle.hall_calls.proofs.ending.OverFile.{any_file, plain_file}
-use Rattle.hall_calls.proofs.following.Shipping.{Stays, stays_same, stays_shipped}
+use Rattle.hall_calls.proofs.replica.Shipping.{Stays, stays_same, stays_shipped}
 use Rattle.hall_calls.proofs.lemmas.Replies.{fault_uses_file, fault_uses_store, unnoted_same}
 use Rattle.backup_file.specs.Backup.{BackupView}
+use Rattle.ledger_steps.specs.declared.part.Part.{Part}
+use Rattle.ledger_steps.specs.Parts.{is_first}
+use Rattle.model_laws.proofs.PartOrders.{post_is}
 
 true_not_false : true ≡ false → ⊥
 true_not_false e = cc
@@ -121,50 +124,51 @@ due_up s past c wants due = server_up (with_calls s past) c wants due.admits
 
 module _ {D L : Type 0} (applied : L → Option (List Entry)) where
   -- the locks behind a post are those of the table, and where there is no server those of a replica
-  pub posted_in : (k : Condition) (x part : ℕ) (t t' : Server D L) → (nat_eq part 1 ≡ true → k ≡ Up)
-      → (nat_eq part 1 ≡ false → t'.table.entries ≡ t.table.entries) → (nat_eq part 1 ≡ false → t'.copy ≡ t.copy)
+  pub posted_in : (k : Condition) (x : ℕ) (part : Part) (t t' : Server D L) → (is_first part ≡ true → k ≡ Up)
+      → (is_first part ≡ false → t'.table.entries ≡ t.table.entries) → (is_first part ≡ false → t'.replica ≡ t.replica)
       → locks_posted part (locks_of applied k x t).entries t'.table.entries ≡ (locks_of applied k x t').entries
-  posted_in k x part t t' up same copies = by_part (nat_eq part 1) up same copies
+  posted_in k x part t t' up same replicas = by_part (is_first part) up same replicas
     where
-      same_as : (q : Condition) → t'.table.entries ≡ t.table.entries → t'.copy ≡ t.copy → (locks_of applied q x t).entries ≡ (locks_of applied q x t').entries
+      same_as : (q : Condition) → t'.table.entries ≡ t.table.entries → t'.replica ≡ t.replica
+          → (locks_of applied q x t).entries ≡ (locks_of applied q x t').entries
       same_as condition.Up e e' = sym e
       same_as condition.NoServer e e' = ap (told_list applied) (sym e')
       same_as (condition.Doubt n) e e' = refl
 
-      by_part : (b : Bool) → (b ≡ true → k ≡ Up) → (b ≡ false → t'.table.entries ≡ t.table.entries) → (b ≡ false → t'.copy ≡ t.copy)
+      by_part : (b : Bool) → (b ≡ true → k ≡ Up) → (b ≡ false → t'.table.entries ≡ t.table.entries) → (b ≡ false → t'.replica ≡ t.replica)
           → (if b then t'.table.entries else (locks_of applied k x t).entries) ≡ (locks_of applied k x t').entries
-      by_part true up same copies = subst (λ q. t'.table.entries ≡ (locks_of applied q x t').entries) (sym (up refl)) refl
-      by_part false up same copies = same_as k (same refl) (copies refl)
+      by_part true up same replicas = subst (λ q. t'.table.entries ≡ (locks_of applied q x t').entries) (sym (up refl)) refl
+      by_part false up same replicas = same_as k (same refl) (replicas refl)
 
   -- and so is the limit
-  pub posted_limit : (k : Condition) (x part : ℕ) (t t' : Server D L) → t'.table.limit ≡ t.table.limit → (nat_eq part 1 ≡ true → k ≡ Up)
-      → (nat_eq part 1 ≡ false → t'.copy ≡ t.copy) → (locks_of applied k x t').limit ≡ (locks_of applied k x t).limit
-  posted_limit k x part t t' limit up copies = by_part (nat_eq part 1) up copies
+  pub posted_limit : (k : Condition) (x : ℕ) (part : Part) (t t' : Server D L) → t'.table.limit ≡ t.table.limit → (is_first part ≡ true → k ≡ Up)
+      → (is_first part ≡ false → t'.replica ≡ t.replica) → (locks_of applied k x t').limit ≡ (locks_of applied k x t).limit
+  posted_limit k x part t t' limit up replicas = by_part (is_first part) up replicas
     where
-      same_as : (q : Condition) → t'.copy ≡ t.copy → (locks_of applied q x t').limit ≡ (locks_of applied q x t).limit
+      same_as : (q : Condition) → t'.replica ≡ t.replica → (locks_of applied q x t').limit ≡ (locks_of applied q x t).limit
       same_as condition.Up e = limit
       same_as condition.NoServer e = ap (λ l. (replicated x l).limit) (ap (told_list applied) e)
       same_as (condition.Doubt n) e = refl
 
-      by_part : (b : Bool) → (b ≡ true → k ≡ Up) → (b ≡ false → t'.copy ≡ t.copy) → (locks_of applied k x t').limit ≡ (locks_of applied k x t).limit
-      by_part true up copies = subst (λ q. (locks_of applied q x t').limit ≡ (locks_of applied q x t).limit) (sym (up refl)) limit
-      by_part false up copies = same_as k (copies refl)
+      by_part : (b : Bool) → (b ≡ true → k ≡ Up) → (b ≡ false → t'.replica ≡ t.replica) → (locks_of applied k x t').limit ≡ (locks_of applied k x t).limit
+      by_part true up replicas = subst (λ q. (locks_of applied q x t').limit ≡ (locks_of applied q x t).limit) (sym (up refl)) limit
+      by_part false up replicas = same_as k (replicas refl)
 
   -- what follows is lost in one only with other locks
-  pub posted_stays : (k : Condition) (x part : ℕ) (call : Call) (t t' : Server D L) → ships call ≡ nat_eq part 1 → (nat_eq part 1 ≡ true → k ≡ Up)
-      → t'.table.limit ≡ t.table.limit → (nat_eq part 1 ≡ false → t'.copy ≡ t.copy) → (t'.copy.attached ≡ true → t.copy.attached ≡ true)
-      → IsLostWith t.copy t'.copy t.table t'.table
-      → Stays call t.copy.attached t'.copy.attached (locks_of applied k x t).entries (locks_of applied k x t').entries
-  posted_stays k x part call t t' is up limit copies kept lost = by_part (nat_eq part 1) is up copies
+  pub posted_stays : (k : Condition) (x : ℕ) (part : Part) (call : Call) (t t' : Server D L) → ships call ≡ is_first part → (is_first part ≡ true → k ≡ Up)
+      → t'.table.limit ≡ t.table.limit → (is_first part ≡ false → t'.replica ≡ t.replica) → (t'.replica.attached ≡ true → t.replica.attached ≡ true)
+      → IsLostWith t.replica t'.replica t.table t'.table
+      → Stays call t.replica.attached t'.replica.attached (locks_of applied k x t).entries (locks_of applied k x t').entries
+  posted_stays k x part call t t' is up limit replicas kept lost = by_part (is_first part) is up replicas
     where
-      by_part : (b : Bool) → ships call ≡ b → (b ≡ true → k ≡ Up) → (b ≡ false → t'.copy ≡ t.copy)
-          → Stays call t.copy.attached t'.copy.attached (locks_of applied k x t).entries (locks_of applied k x t').entries
-      by_part true is up copies =
-          subst (λ q. Stays call t.copy.attached t'.copy.attached (locks_of applied q x t).entries (locks_of applied q x t').entries) (sym (up refl))
-          (stays_shipped call t.copy.attached t'.copy.attached t.table t'.table is kept limit lost)
-      by_part false is up copies =
-          subst (λ (f : Following L). Stays call t.copy.attached f.attached (locks_of applied k x t).entries (locks_of applied k x t').entries)
-          (sym (copies refl)) (stays_same call t.copy.attached _ _)
+      by_part : (b : Bool) → ships call ≡ b → (b ≡ true → k ≡ Up) → (b ≡ false → t'.replica ≡ t.replica)
+          → Stays call t.replica.attached t'.replica.attached (locks_of applied k x t).entries (locks_of applied k x t').entries
+      by_part true is up replicas =
+          subst (λ q. Stays call t.replica.attached t'.replica.attached (locks_of applied q x t).entries (locks_of applied q x t').entries) (sym (up refl))
+          (stays_shipped call t.replica.attached t'.replica.attached t.table t'.table is kept limit lost)
+      by_part false is up replicas =
+          subst (λ (f : ReplicaView L). Stays call t.replica.attached f.attached (locks_of applied k x t).entries (locks_of applied k x t').entries)
+          (sym (replicas refl)) (stays_same call t.replica.attached _ _)
 
 all_alike : (start : ℕ) (es : List Entry) (sessions : List Session) → LoseAlike start es es sessions
 all_alike start es [] = tt
@@ -419,12 +423,12 @@ given_noted made given (inl same) noted = ap is_unrecorded same ∙ noted
 given_noted made given (inr (row, is)) noted = ap is_unrecorded is
 
 -- a V2 part isn't one whose locks end
-pub posts_file : {D : Type 0} (faults : D → ℕ) (old new : BackupView D) (part worker : ℕ) (r : Reply) → IsPart part → MayFile faults old new r
-    → (nat_eq part 1 ≡ false → new ≡ old)
+pub posts_file : {D : Type 0} (faults : D → ℕ) (old new : BackupView D) (part : Part) (worker : ℕ) (r : Reply) → MayFile faults old new r
+    → (is_first part ≡ false → new ≡ old)
     → LeavesFile faults (restarts (call_of (post_of part worker))) (touches_file (call_of (post_of part worker))) old new r
-posts_file faults old new part worker r is does unfiled =
-    subst (λ call. LeavesFile faults (restarts call) (touches_file call) old new r) (sym (posts_part part worker is)) (by_part (nat_eq part 1) refl)
+posts_file faults old new part worker r does unfiled =
+    subst (λ call. LeavesFile faults (restarts call) (touches_file call) old new r) (sym (post_is part worker)) (by_part (is_first part) refl)
   where
-    by_part : (b : Bool) → nat_eq part 1 ≡ b → DoesFile faults b old new r
+    by_part : (b : Bool) → is_first part ≡ b → DoesFile faults b old new r
     by_part true e = does
     by_part false e = unfiled e

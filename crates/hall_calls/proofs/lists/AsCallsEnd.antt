@@ -1,6 +1,6 @@
 -- The lists of the backup file as calls end: with a part that is posted, a unit that is cancelled or tried again, and numbers.
-use Rattle.std.proofs.Common.{◌≡◌, inl, inr, ℕ, Bool, true, false, not, ◌&&◌, List, refl, sym, ap, ◌∙◌, subst}
-use Rattle.std.specs.Prelude.{nat_eq, Option, Some, None, IsTrue}
+use Rattle.std.proofs.Common.{◌≡◌, ℕ, Bool, true, false, not, ◌&&◌, List, refl, sym, ap, ◌∙◌, subst}
+use Rattle.std.specs.Prelude.{Option, Some, None, IsTrue}
 use Rattle.backup_file.specs.Backup.{BackupView, IsReady}
 use Rattle.backup_file.specs.Lists.{is_known}
 use Rattle.backup_file.specs.declared.handed.Handed.{Handed}
@@ -34,54 +34,42 @@ use Rattle.hall_model.specs.declared.command.Session.{Session}
 use Rattle.ledger_steps.specs.declared.step.Step.TheVariants.{Record, Draw}
 use Rattle.hall_calls.specs.declared.units.Written.{Written}
 use Rattle.hall_calls.specs.declared.units.Written.TheVariants.{Answered, Failed}
-use Rattle.hall_calls.proofs.ending.StateBehind.{IsPart}
 use Rattle.hall_calls.proofs.ending.OverFile.{AgreesBoth, answered_files, failed_before, same_file}
 use Rattle.hall_calls.proofs.lemmas.WaitingLists.{committed_known, ended_known, ended_waiting, kept_waiting, same_known}
 use Rattle.hall_calls.proofs.lists.BehindMarks.{again_same, committed_lists, ended_agree, ended_lists, ended_without, ends_first, ends_gone, ends_second, gone_same, gone_second_same, numbers_same, same_agree, same_lists, saved_locks, second_same, uncommitted_agree}
+use Rattle.ledger_steps.specs.declared.part.Part.TheVariants.{V1, V2}
+use Rattle.ledger_steps.specs.declared.part.Part.{Part}
+use Rattle.ledger_steps.specs.Parts.{is_first}
 
 -- ---- a part that is posted
 
-pub posted_lists : (part : ℕ) → IsPart part → (ledger : Ledger) (unit : UnitKey) (o : Outcome) → WaitsFor part ledger unit → (lists : List Handed)
-    → AreOpenLists ledger lists → AreOpenLists (with_mark ledger unit (kind_for part o)) (lists_ended (nat_eq part 1) lists unit)
-posted_lists part (inl e) ledger unit o waits lists h =
-    subst (λ p. AreOpenLists (with_mark ledger unit (kind_for p o)) (lists_ended (nat_eq p 1) lists unit)) (sym e)
-    (ended_lists ledger unit (kind_for 1 o) lists (ends_first o) h)
-posted_lists part (inr e) ledger unit o waits lists h =
-    subst (λ p. AreOpenLists (with_mark ledger unit (kind_for p o)) (lists_ended (nat_eq p 1) lists unit)) (sym e)
-    (same_lists ledger (with_mark ledger unit (kind_for 2 o)) lists (second_same ledger unit o (subst (λ p. WaitsFor p ledger unit) e waits)) h)
+pub posted_lists : (part : Part) (ledger : Ledger) (unit : UnitKey) (o : Outcome) → WaitsFor part ledger unit → (lists : List Handed)
+    → AreOpenLists ledger lists → AreOpenLists (with_mark ledger unit (kind_for part o)) (lists_ended (is_first part) lists unit)
+posted_lists V1 ledger unit o waits lists h = ended_lists ledger unit (kind_for V1 o) lists (ends_first o) h
+posted_lists V2 ledger unit o waits lists h = same_lists ledger (with_mark ledger unit (kind_for V2 o)) lists (second_same ledger unit o waits) h
 
-pub posted_agree : (part : ℕ) → IsPart part → (ledger : Ledger) (unit : UnitKey) (o : Outcome) (lists : List Handed) → AgreeAll ledger lists
+pub posted_agree : (part : Part) (ledger : Ledger) (unit : UnitKey) (o : Outcome) (lists : List Handed) → AgreeAll ledger lists
     → AgreeAll (with_mark ledger unit (kind_for part o)) lists
-posted_agree part (inl e) ledger unit o lists h = subst (λ p. AgreeAll (with_mark ledger unit (kind_for p o)) lists) (sym e)
-    (ended_agree ledger unit (kind_for 1 o) lists (ends_first o) h)
-posted_agree part (inr e) ledger unit o lists h = subst (λ p. AgreeAll (with_mark ledger unit (kind_for p o)) lists) (sym e)
-    (ended_agree ledger unit (kind_for 2 o) lists (ends_second o) h)
+posted_agree V1 ledger unit o lists h = ended_agree ledger unit (kind_for V1 o) lists (ends_first o) h
+posted_agree V2 ledger unit o lists h = ended_agree ledger unit (kind_for V2 o) lists (ends_second o) h
 
-pub posted_half : (part : ℕ) → IsPart part → (ledger : Ledger) (unit : UnitKey) (o : Outcome) (lists : List Handed) → AgreeAll ledger lists
-    → AgreeAll (with_mark ledger unit (kind_for part o)) (lists_ended (nat_eq part 1) lists unit)
-posted_half part (inl e) ledger unit o lists h =
-    subst (λ p. AgreeAll (with_mark ledger unit (kind_for p o)) (lists_ended (nat_eq p 1) lists unit)) (sym e)
-    (ended_without ledger unit (kind_for 1 o) lists (ends_first o) h)
-posted_half part (inr e) ledger unit o lists h =
-    subst (λ p. AgreeAll (with_mark ledger unit (kind_for p o)) (lists_ended (nat_eq p 1) lists unit)) (sym e)
-    (ended_agree ledger unit (kind_for 2 o) lists (ends_second o) h)
+pub posted_half : (part : Part) (ledger : Ledger) (unit : UnitKey) (o : Outcome) (lists : List Handed) → AgreeAll ledger lists
+    → AgreeAll (with_mark ledger unit (kind_for part o)) (lists_ended (is_first part) lists unit)
+posted_half V1 ledger unit o lists h = ended_without ledger unit (kind_for V1 o) lists (ends_first o) h
+posted_half V2 ledger unit o lists h = ended_agree ledger unit (kind_for V2 o) lists (ends_second o) h
 
-posted_waiting : (part : ℕ) → IsPart part → (ledger : Ledger) (unit : UnitKey) (o : Outcome) → WaitsFor part ledger unit → (other : UnitKey)
-    → waits_with_locks (with_mark ledger unit (kind_for part o)) other ≡ (waits_with_locks ledger other && not (nat_eq part 1 && same_unit unit other))
-posted_waiting part (inl e) ledger unit o waits other =
-    subst (λ p. waits_with_locks (with_mark ledger unit (kind_for p o)) other ≡ (waits_with_locks ledger other && not (nat_eq p 1 && same_unit unit other)))
-    (sym e) (ended_waiting ledger unit other (kind_for 1 o) (ends_first o))
-posted_waiting part (inr e) ledger unit o waits other =
-    subst (λ p. waits_with_locks (with_mark ledger unit (kind_for p o)) other ≡ (waits_with_locks ledger other && not (nat_eq p 1 && same_unit unit other)))
-    (sym e)
-    (kept_waiting ledger (with_mark ledger unit (kind_for 2 o)) unit other (second_same ledger unit o (subst (λ p. WaitsFor p ledger unit) e waits)))
+posted_waiting : (part : Part) (ledger : Ledger) (unit : UnitKey) (o : Outcome) → WaitsFor part ledger unit → (other : UnitKey)
+    → waits_with_locks (with_mark ledger unit (kind_for part o)) other ≡ (waits_with_locks ledger other && not (is_first part && same_unit unit other))
+posted_waiting V1 ledger unit o waits other = ended_waiting ledger unit other (kind_for V1 o) (ends_first o)
+posted_waiting V2 ledger unit o waits other =
+    kept_waiting ledger (with_mark ledger unit (kind_for V2 o)) unit other (second_same ledger unit o waits)
 
 -- the units whose lists stand then
-pub posted_known : (part : ℕ) → IsPart part → (ledger : Ledger) (unit : UnitKey) (o : Outcome) (old new : List UnitId) → WaitsFor part ledger unit
-    → AreWaiting ledger old → ((other : UnitKey) → is_known other new ≡ stays_known (nat_eq part 1) unit old other)
+pub posted_known : (part : Part) (ledger : Ledger) (unit : UnitKey) (o : Outcome) (old new : List UnitId) → WaitsFor part ledger unit
+    → AreWaiting ledger old → ((other : UnitKey) → is_known other new ≡ stays_known (is_first part) unit old other)
     → AreWaiting (with_mark ledger unit (kind_for part o)) new
-posted_known part is ledger unit o old new waits are stays =
-    ended_known ledger (with_mark ledger unit (kind_for part o)) (nat_eq part 1) unit old new are stays (posted_waiting part is ledger unit o waits)
+posted_known part ledger unit o old new waits are stays =
+    ended_known ledger (with_mark ledger unit (kind_for part o)) (is_first part) unit old new are stays (posted_waiting part ledger unit o waits)
 
 -- ---- a unit that is cancelled
 

@@ -48,6 +48,7 @@ use Rattle.hall_calls.proofs.lemmas.OfOpenUnits.{AgreeEach, FollowUnits, IsOfOpe
 use Rattle.model_laws.proofs.EachLock.{recorded_here, every_append, every_more}
 use Rattle.hall_calls.proofs.lists.StoredLocks.{stored_flags, stored_used}
 use Rattle.model_laws.proofs.BesideRecorded.{entries_beside}
+use Rattle.ledger_steps.specs.declared.part.Part.TheVariants.{V1, V2}
 
 -- ---- lists
 
@@ -233,12 +234,12 @@ shut_same ledger key kind status ends here differs = record {
   was = λ unit waits. was_open ledger key unit kind ends waits;
 }
 
-pub ends_first : (o : Outcome) → EndsFirst (kind_for 1 o)
+pub ends_first : (o : Outcome) → EndsFirst (kind_for V1 o)
 ends_first outcome.Done true before h = cc
 ends_first outcome.Done false before h = cc
 ends_first (outcome.Refused index reason) b before h = cc
 
-pub ends_second : (o : Outcome) → EndsFirst (kind_for 2 o)
+pub ends_second : (o : Outcome) → EndsFirst (kind_for V2 o)
 ends_second outcome.Done b before h = cc
 ends_second (outcome.Refused index reason) b before h = cc
 
@@ -249,8 +250,8 @@ pub ends_again : EndsFirst Again2
 ends_again b before h = cc
 
 -- what a V2 part comes to, of a unit that waits for it
-pub second_same : (ledger : Ledger) (key : UnitKey) (o : Outcome) → status_in ledger key ≡ Some Posted → SameOpen ledger (with_mark ledger key (kind_for 2 o))
-second_same ledger key o here = shut_same ledger key (kind_for 2 o) Posted (ends_second o) here posted_differs
+pub second_same : (ledger : Ledger) (key : UnitKey) (o : Outcome) → status_in ledger key ≡ Some Posted → SameOpen ledger (with_mark ledger key (kind_for V2 o))
+second_same ledger key o here = shut_same ledger key (kind_for V2 o) Posted (ends_second o) here posted_differs
 
 -- a V2 part that is tried again
 pub again_same : (ledger : Ledger) (key : UnitKey) → status_in ledger key ≡ Some BadSecond → SameOpen ledger (with_mark ledger key Again2)

@@ -27,11 +27,11 @@ use Rattle.hall_model.specs.Acts.{Admits, IsTelling}
 use Rattle.hall_model.specs.Calls.{OfAdmin, Restarts}
 use Rattle.hall_model.specs.Devices.{AllWell, AsKnown, BackupFails, FindsBad, FindsBadStore, LeavesTable, MayFind, MayRead, MeetsWant, NotRemade, Reading, RemakeFault, Reopens, StoreFails, Wanting, IsAsBefore, all_well, fault_told, found_by, is_doubt, only}
 use Rattle.hall_calls.specs.Filing.{AllRecover, HasFileCause, HasOpenLists, RecoversFrom, UnlessTaken, UnlessUntaken}
-use Rattle.hall_model.specs.History.{doubted, had_lock, judged, known_behind, pending_after, read_anew, refused, stored_before_file, unfiled}
+use Rattle.hall_model.specs.History.{doubted, had_lock, in_flight_after, judged, known_behind, read_anew, refused, stored_before_file, unfiled}
 use Rattle.hall_model.specs.Kept.{IsInFlight}
 use Rattle.hall_calls.specs.Leaving.{HasStoreCause}
 use Rattle.hall_calls.specs.OpenLists.{AgreeAll}
-use Rattle.hall_model.specs.OpenUnits.{OfPending}
+use Rattle.hall_model.specs.OpenUnits.{OfInFlight}
 use Rattle.hall_calls.specs.Remaking.{IsReadFault, remade_state, remake_refusal}
 use Rattle.hall_model.specs.Sessions.{bereft_if, with_marks}
 use Rattle.hall_model.specs.State.{State}
@@ -113,11 +113,11 @@ module _ (s : State) (k : Condition) (is : s.condition ≡ k) (down : k ≡ cond
 
   -- the sessions are as they were
   pub sessions_kept : (read : Option Bool) (sessions : List Session) (r : Reply) → sessions ≡ s.sessions
-      → Tells false (doubted s (OfAdmin Restarts) read s.pending) r
-      → Tells false (record (doubted s (OfAdmin Restarts) read s.pending) { sessions = sessions }) r
+      → Tells false (doubted s (OfAdmin Restarts) read s.in_flight) r
+      → Tells false (record (doubted s (OfAdmin Restarts) read s.in_flight) { sessions = sessions }) r
   sessions_kept read sessions r same h =
       let marks : with_marks (had_lock s) s.sessions ≡ s.sessions = ap (λ c. with_marks (had_in s c) s.sessions) is ∙ unmarked s k down in
-      subst (λ xs. Tells false (record (doubted s (OfAdmin Restarts) read s.pending) { sessions = xs }) r) (marks ∙ sym same) h
+      subst (λ xs. Tells false (record (doubted s (OfAdmin Restarts) read s.in_flight) { sessions = xs }) r) (marks ∙ sym same) h
 
   -- what was read of the change in flight
   abbrev reading_of : Option Bool → Reading
@@ -137,58 +137,58 @@ module _ (s : State) (k : Condition) (is : s.condition ≡ k) (down : k ≡ cond
 
   -- for a reason of its own
   in_vain : (fault : RemakeFault) (read : Option Bool) → MayHaveRead read
-      → Tells false (doubted s (OfAdmin Restarts) read s.pending) (reply.Refused (fault_told fault))
+      → Tells false (doubted s (OfAdmin Restarts) read s.in_flight) (reply.Refused (fault_told fault))
   in_vain fault read may = record {
     act = record {
       outcome = record { event = NotRemade fault; reading = reading_of read; lost = false };
       possible = record { reading = may_read read may; event = (leaves_so (reading_of read), refl); lost = tt };
-      same = ap (λ b. refused (doubted s (OfAdmin Restarts) b s.pending) (fault_told fault)) (reads_it read);
+      same = ap (λ b. refused (doubted s (OfAdmin Restarts) b s.in_flight) (fault_told fault)) (reads_it read);
     };
     taken = refl;
   }
 
   -- since the disk failed
-  unfiled_so : (read : Option Bool) → MayHaveRead read → Tells false (doubted s (OfAdmin Restarts) read s.pending) (reply.Refused refusal.BackupFault)
+  unfiled_so : (read : Option Bool) → MayHaveRead read → Tells false (doubted s (OfAdmin Restarts) read s.in_flight) (reply.Refused refusal.BackupFault)
   unfiled_so read may = record {
     act = record {
       outcome = record { event = BackupFails; reading = reading_of read; lost = false };
       possible = record { reading = may_read read may; event = (leaves_so (reading_of read), refl); lost = tt };
       same = ap (λ v. refused (unfiled s (OfAdmin Restarts) (read_anew (reading_of read)) (stored_before_file s (OfAdmin Restarts) v)) refusal.BackupFault)
           (given (found_by (reading_of read) s))
-          ∙ ap (λ b. refused (doubted s (OfAdmin Restarts) b s.pending) refusal.BackupFault) (reads_it read);
+          ∙ ap (λ b. refused (doubted s (OfAdmin Restarts) b s.in_flight) refusal.BackupFault) (reads_it read);
     };
     taken = refl;
   }
 
   -- since the store failed
-  unread_so : is_doubt k ≡ true → Tells false (doubted s (OfAdmin Restarts) None s.pending) (reply.Refused refusal.StoreFault)
+  unread_so : is_doubt k ≡ true → Tells false (doubted s (OfAdmin Restarts) None s.in_flight) (reply.Refused refusal.StoreFault)
   unread_so doubt = record {
     act = record {
       outcome = only StoreFails;
       possible = record { reading = tt; event = (leaves_so AsKnown, ap is_doubt is ∙ doubt); lost = tt };
-      same = ap (λ v. refused (doubted s (OfAdmin Restarts) None (pending_after AsKnown s (OfAdmin Restarts) v)) refusal.StoreFault) (given (found_in s));
+      same = ap (λ v. refused (doubted s (OfAdmin Restarts) None (in_flight_after AsKnown s (OfAdmin Restarts) v)) refusal.StoreFault) (given (found_in s));
     };
     taken = refl;
   }
 
-  told_as : (read : Option Bool) (r q : Refusal) → r ≡ q → Tells false (doubted s (OfAdmin Restarts) read s.pending) (reply.Refused q)
-      → Tells false (doubted s (OfAdmin Restarts) read s.pending) (reply.Refused r)
-  told_as read r q why h = subst (λ x. Tells false (doubted s (OfAdmin Restarts) read s.pending) (reply.Refused x)) (sym why) h
+  told_as : (read : Option Bool) (r q : Refusal) → r ≡ q → Tells false (doubted s (OfAdmin Restarts) read s.in_flight) (reply.Refused q)
+      → Tells false (doubted s (OfAdmin Restarts) read s.in_flight) (reply.Refused r)
+  told_as read r q why h = subst (λ x. Tells false (doubted s (OfAdmin Restarts) read s.in_flight) (reply.Refused x)) (sym why) h
 
   -- by its backup file
   pub not_remade : (fault : OpenFault) (r : Refusal) (read : Option Bool) → r ≡ remake_refusal fault → MayHaveRead read
-      → Tells false (doubted s (OfAdmin Restarts) read s.pending) (reply.Refused r)
+      → Tells false (doubted s (OfAdmin Restarts) read s.in_flight) (reply.Refused r)
   not_remade opening.Failed r read why may = told_as read r refusal.BackupFault why (unfiled_so read may)
   not_remade (opening.Bad place) r read why may = told_as read r (fault_told (FindsBad place)) why (in_vain (FindsBad place) read may)
   not_remade opening.NoMemory r read why may = told_as read r refusal.NoMemory why (in_vain MeetsWant read may)
 
-  none_read : (read : Option Bool) → read ≡ None → Tells false (doubted s (OfAdmin Restarts) None s.pending) (reply.Refused refusal.StoreFault)
-      → Tells false (doubted s (OfAdmin Restarts) read s.pending) (reply.Refused refusal.StoreFault)
-  none_read read none h = subst (λ b. Tells false (doubted s (OfAdmin Restarts) b s.pending) (reply.Refused refusal.StoreFault)) (sym none) h
+  none_read : (read : Option Bool) → read ≡ None → Tells false (doubted s (OfAdmin Restarts) None s.in_flight) (reply.Refused refusal.StoreFault)
+      → Tells false (doubted s (OfAdmin Restarts) read s.in_flight) (reply.Refused refusal.StoreFault)
+  none_read read none h = subst (λ b. Tells false (doubted s (OfAdmin Restarts) b s.in_flight) (reply.Refused refusal.StoreFault)) (sym none) h
 
   -- by its store
   pub not_read : is_doubt k ≡ true → (r : Refusal) (read : Option Bool) → IsReadFault r read → MayHaveRead read
-      → Tells false (doubted s (OfAdmin Restarts) read s.pending) (reply.Refused r)
+      → Tells false (doubted s (OfAdmin Restarts) read s.in_flight) (reply.Refused r)
   not_read doubt refusal.StoreFault read why may = none_read read why (unread_so doubt)
   not_read doubt refusal.NoMemory read why may = in_vain MeetsWant read may
   not_read doubt (refusal.Unsound (bad.Store table row)) read why may = in_vain (FindsBadStore table row) read may
@@ -217,7 +217,7 @@ module _ (s : State) (k : Condition) (is : s.condition ≡ k) (down : k ≡ cond
 
   -- what it has of the store and of the table, of sessions and orders
   pub record IsMadeOf (read : Option Bool) (after : List Session) (orders : List (Option UnitKey)) (table : Table) (ledger : Ledger) : Type 0 where
-    pub stored : ledger ≡ stored_anew (is_taken read) s.stored s.pending
+    pub stored : ledger ≡ stored_anew (is_taken read) s.stored s.in_flight
     pub bereaved : after ≡ map (bereft_if s.failed_caller) s.sessions
     pub idle : orders ≡ replicate 256 None
     pub made : table ≡ recovered s.max_locks (open_locks ledger)
@@ -239,7 +239,7 @@ module _ (s : State) (k : Condition) (is : s.condition ≡ k) (down : k ≡ cond
         taken_over = false;
         attached = false;
         stored = sym h.stored i;
-        pending = None;
+        in_flight = None;
         found = None;
         failed_caller = None;
       })
@@ -280,36 +280,36 @@ left_agree ledger away lists h =
 
 -- what was read is right; and where nothing was, nothing is in flight
 abbrev pub IsReadRight : Option Bool → Option Bool → Ledger → Option Ledger → Type 0
-IsReadRight None found stored pending = (pending ≡ None) × (found ≡ None)
-IsReadRight (Some taken) found stored pending = (IsTrue taken → IsInFlight stored pending) × IsAsBefore found taken
+IsReadRight None found stored in_flight = (in_flight ≡ None) × (found ≡ None)
+IsReadRight (Some taken) found stored in_flight = (IsTrue taken → IsInFlight stored in_flight) × IsAsBefore found taken
 
 abbrev AgreesAs : Option Bool → Ledger → Option Ledger → List Handed → Type 0
-AgreesAs found stored pending lists = UnlessTaken found (AgreeAll stored lists) × UnlessUntaken found (OfPending pending (λ ledger. AgreeAll ledger lists))
+AgreesAs found stored in_flight lists = UnlessTaken found (AgreeAll stored lists) × UnlessUntaken found (OfInFlight in_flight (λ ledger. AgreeAll ledger lists))
 
 -- lists agree with what was found
-agree_found : (read found : Option Bool) (stored : Ledger) (pending : Option Ledger) (lists : List Handed) → IsReadRight read found stored pending
-    → AgreesAs found stored pending lists → AgreeAll (stored_anew (is_taken read) stored pending) lists
-agree_found None found stored pending lists right h = (subst (λ f. AgreesAs f stored pending lists) right.1 h).0
-agree_found (Some false) None stored pending lists right h = h.0
-agree_found (Some false) (Some false) stored pending lists right h = h.0
-agree_found (Some false) (Some true) stored pending lists right h = let odd = right.1 in absurd (cc)
+agree_found : (read found : Option Bool) (stored : Ledger) (in_flight : Option Ledger) (lists : List Handed) → IsReadRight read found stored in_flight
+    → AgreesAs found stored in_flight lists → AgreeAll (stored_anew (is_taken read) stored in_flight) lists
+agree_found None found stored in_flight lists right h = (subst (λ f. AgreesAs f stored in_flight lists) right.1 h).0
+agree_found (Some false) None stored in_flight lists right h = h.0
+agree_found (Some false) (Some false) stored in_flight lists right h = h.0
+agree_found (Some false) (Some true) stored in_flight lists right h = let odd = right.1 in absurd (cc)
 agree_found (Some true) found stored None lists right h = absurd (right.0 refl)
 agree_found (Some true) None stored (Some changed) lists right h = h.1
 agree_found (Some true) (Some false) stored (Some changed) lists right h = let odd = right.1 in absurd (cc)
 agree_found (Some true) (Some true) stored (Some changed) lists right h = h.1
 
 -- and so they agree with all that it may be from then on
-agrees_then : (read found : Option Bool) (stored : Ledger) (pending : Option Ledger) (lists : List Handed) → IsReadRight read found stored pending
-    → AgreeAll (stored_anew (is_taken read) stored pending) lists → AgreesAs (known_behind found read) stored pending lists
-agrees_then None found stored pending lists right h =
-    subst (λ f. AgreesAs f stored pending lists) (sym right.1) (h, subst (λ p. OfPending p (λ ledger. AgreeAll ledger lists)) (sym right.0) tt)
-agrees_then (Some false) found stored pending lists right h = (h, tt)
+agrees_then : (read found : Option Bool) (stored : Ledger) (in_flight : Option Ledger) (lists : List Handed) → IsReadRight read found stored in_flight
+    → AgreeAll (stored_anew (is_taken read) stored in_flight) lists → AgreesAs (known_behind found read) stored in_flight lists
+agrees_then None found stored in_flight lists right h =
+    subst (λ f. AgreesAs f stored in_flight lists) (sym right.1) (h, subst (λ p. OfInFlight p (λ ledger. AgreeAll ledger lists)) (sym right.0) tt)
+agrees_then (Some false) found stored in_flight lists right h = (h, tt)
 agrees_then (Some true) found stored None lists right h = (tt, tt)
 agrees_then (Some true) found stored (Some changed) lists right h = (tt, h)
 
-recovers_so : (n : ℕ) (found : Option Bool) (stored : Ledger) (pending : Option Ledger) (image : List ℕ) (lists : List Handed) → Stands image lists
-    → AgreesAs found stored pending lists → RecoversFrom (condition.Doubt n) stored pending found image
-recovers_so n found stored pending image lists stood h = record { lists = lists; stands = stood; agree = h.0; landed = h.1; only = tt }
+recovers_so : (n : ℕ) (found : Option Bool) (stored : Ledger) (in_flight : Option Ledger) (image : List ℕ) (lists : List Handed) → Stands image lists
+    → AgreesAs found stored in_flight lists → RecoversFrom (condition.Doubt n) stored in_flight found image
+recovers_so n found stored in_flight image lists stood h = record { lists = lists; stands = stood; agree = h.0; flight_agrees = h.1; only = tt }
 
 -- an image that follows another one, by this fault
 left_stands : (ledger : Ledger) (lists : List Handed) (fault : OpenFault) (old image : List ℕ) → AgreeAll ledger lists → Stands old lists
@@ -320,39 +320,40 @@ left_stands ledger lists (opening.Bad place) old image agree stood h = (lists, h
 left_stands ledger lists opening.NoMemory old image agree stood h = (lists, h.states lists stood, agree)
 
 module _ {D : Type 0} (tells : Bool) (reads : D → List ℕ) (may_leave : D → List ℕ → Type 0) (faults : D → ℕ) where
-  module _ (k : Condition) (stored : Ledger) (pending : Option Ledger) (found read : Option Bool) (right : IsReadRight read found stored pending)
-      (old : BackupView D) (all : AllRecover tells may_leave k stored pending found old) where
+  module _ (k : Condition) (stored : Ledger) (in_flight : Option Ledger) (found read : Option Bool) (right : IsReadRight read found stored in_flight)
+      (old : BackupView D) (all : AllRecover tells may_leave k stored in_flight found old) where
     -- what each image stands for agrees with what was found
     pub found_stands : IsTrue tells → (image : List ℕ) → may_leave old.disk image
-        → (lists : List Handed) × Stands image lists × AgreeAll (stored_anew (is_taken read) stored pending) lists
+        → (lists : List Handed) × Stands image lists × AgreeAll (stored_anew (is_taken read) stored in_flight) lists
     found_stands t image may =
-        let h = all t image may in (h.lists, h.stands, agree_found read found stored pending h.lists right (h.agree, h.landed))
+        let h = all t image may in (h.lists, h.stands, agree_found read found stored in_flight h.lists right (h.agree, h.flight_agrees))
 
     -- a file that was made anew in vain
-    pub left_recovers : (units : List UnitLocks) (new : BackupView D) (fault : OpenFault) → units ≡ open_locks (stored_anew (is_taken read) stored pending)
+    pub left_recovers : (units : List UnitLocks) (new : BackupView D) (fault : OpenFault) → units ≡ open_locks (stored_anew (is_taken read) stored in_flight)
         → (IsTrue tells → Follows (LeavesLists units fault) (may_leave old.disk) (may_leave new.disk)) → (calls : ℕ)
-        → AllRecover tells may_leave (condition.Doubt (calls + 1)) stored pending (known_behind found read) new
+        → AllRecover tells may_leave (condition.Doubt (calls + 1)) stored in_flight (known_behind found read) new
     left_recovers units new fault are images calls = λ t image may.
         let before = images t image may in
         let h = found_stands t before.0 before.1 in
         let less =
-        left_stands (stored_anew (is_taken read) stored pending) h.0 fault before.0 image h.2 h.1
+        left_stands (stored_anew (is_taken read) stored in_flight) h.0 fault before.0 image h.2 h.1
         (subst (λ us. LeavesLists us fault before.0 image) are before.2) in
-        recovers_so (calls + 1) (known_behind found read) stored pending image less.0 less.1 (agrees_then read found stored pending less.0 right less.2)
+        recovers_so (calls + 1) (known_behind found read) stored in_flight image less.0 less.1 (agrees_then read found stored in_flight less.0 right less.2)
 
     -- and one that wasn't touched, where something was read
-    pub same_recovers : (new : BackupView D) → new ≡ old → (calls : ℕ) → AllRecover tells may_leave (condition.Doubt (calls + 1)) stored pending
+    pub same_recovers : (new : BackupView D) → new ≡ old → (calls : ℕ) → AllRecover tells may_leave (condition.Doubt (calls + 1)) stored in_flight
         (known_behind found read) new
     same_recovers new same calls = λ t image may.
         let h = found_stands t image (subst (λ (f : BackupView D). may_leave f.disk image) same may) in
-        recovers_so (calls + 1) (known_behind found read) stored pending image h.0 h.1 (agrees_then read found stored pending h.0 right h.2)
+        recovers_so (calls + 1) (known_behind found read) stored in_flight image h.0 h.1 (agrees_then read found stored in_flight h.0 right h.2)
 
   -- or nothing
-  pub untouched_recovers : (k : Condition) (stored : Ledger) (pending : Option Ledger) (found : Option Bool) (old new : BackupView D) → new ≡ old
-      → AllRecover tells may_leave k stored pending found old → (calls : ℕ) → AllRecover tells may_leave (condition.Doubt (calls + 1)) stored pending found new
-  untouched_recovers k stored pending found old new same all calls = λ t image may.
+  pub untouched_recovers : (k : Condition) (stored : Ledger) (in_flight : Option Ledger) (found : Option Bool) (old new : BackupView D) → new ≡ old
+      → AllRecover tells may_leave k stored in_flight found old → (calls : ℕ)
+      → AllRecover tells may_leave (condition.Doubt (calls + 1)) stored in_flight found new
+  untouched_recovers k stored in_flight found old new same all calls = λ t image may.
       let h = all t image (subst (λ (f : BackupView D). may_leave f.disk image) same may) in
-      recovers_so (calls + 1) found stored pending image h.lists h.stands (h.agree, h.landed)
+      recovers_so (calls + 1) found stored in_flight image h.lists h.stands (h.agree, h.flight_agrees)
 
   -- where one was made it is ready
   pub remade_lists : (ledger : Ledger) (units : List UnitLocks) (bytes : List ℕ) (new : BackupView D) → units ≡ open_locks ledger → new.failed ≡ false

@@ -52,14 +52,14 @@ not_up (condition.Doubt n) down = refl
 -- the state has what the books and the failure have
 pub record IsOf (s : State) (ledger : Ledger) (failure : Failure) : Type 0 where
   pub stored : s.stored ≡ ledger
-  pub pending : s.pending ≡ flight_over ledger failure
+  pub in_flight : s.in_flight ≡ flight_over ledger failure
   pub found : s.found ≡ failure.found
 
 pub may_find : (s : State) (ledger : Ledger) (failure : Failure) → IsOf s ledger failure → (taken : Bool)
     → (IsTrue taken → IsInFlight ledger (flight_over ledger failure))
     → IsAsBefore failure.found taken → MayFind s taken
 may_find s ledger failure h taken flight known = record {
-  flight = λ t. subst (λ l. IsInFlight l s.pending) (sym h.stored) (subst (IsInFlight ledger) (sym h.pending) (flight t));
+  flight = λ t. subst (λ l. IsInFlight l s.in_flight) (sym h.stored) (subst (IsInFlight ledger) (sym h.in_flight) (flight t));
   known = subst (λ f. IsAsBefore f taken) (sym h.found) known;
 }
 

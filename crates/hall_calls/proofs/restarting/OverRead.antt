@@ -12,7 +12,7 @@ use Rattle.ledger_steps.specs.Steps.{after_step}
 use Rattle.update_records.specs.Ledger.{Ledger, StandFor}
 use Rattle.hall_model.specs.Devices.{is_doubt, MayFind}
 use Rattle.hall_model.specs.Kept.{OutsideDoubt}
-use Rattle.hall_model.specs.OpenUnits.{OfPending}
+use Rattle.hall_model.specs.OpenUnits.{OfInFlight}
 use Rattle.hall_calls.specs.Remaking.{IsReadAs, IsUsableAs, LeavesKnown, flight_over, ledger_read, taken_in, taken_read}
 use Rattle.hall_calls.specs.Serving.{DoesStore, MayReread}
 use Rattle.hall_model.specs.State.{State}
@@ -28,7 +28,7 @@ pub taken_same : (found : Option FoundAnew) → is_taken (taken_in found) ≡ ta
 taken_same None = refl
 taken_same (Some found) = refl
 
-no_flight_over : (ledger : Ledger) (failure : Failure) → failure.pending ≡ None → flight_over ledger failure ≡ None
+no_flight_over : (ledger : Ledger) (failure : Failure) → failure.in_flight ≡ None → flight_over ledger failure ≡ None
 no_flight_over ledger failure none = ap (option_map (after_step ledger)) none
 
 right_found : (before : Ledger) (failure : Failure) (found : Option FoundAnew) → IsReadAs (condition.Doubt 0) before failure found
@@ -37,7 +37,7 @@ right_found before failure None h = absurd h
 right_found before failure (Some found) h = (h.flight, h.known)
 
 pub read_right : (k : Condition) (before : Ledger) (failure : Failure) (found : Option FoundAnew) → (k ≡ condition.Up → ⊥) → IsReadAs k before failure found
-    → OutsideDoubt k (failure.pending ≡ None) → OutsideDoubt k (failure.found ≡ None)
+    → OutsideDoubt k (failure.in_flight ≡ None) → OutsideDoubt k (failure.found ≡ None)
     → IsReadRight (taken_in found) failure.found before (flight_over before failure)
 read_right condition.Up before failure found down h settled unknown = absurd (down refl)
 read_right condition.NoServer before failure found down h settled unknown =
@@ -113,13 +113,14 @@ module _ {K : Type 0} (held : K → Option Rows) (is_open : K → Type 0) (may_l
   read_store (condition.Doubt n) old new r apart reread = reread refl
 
 -- the joined locks of what was found
-pub found_sound : (P : Ledger → Type 0) (taken : Bool) (stored : Ledger) (pending : Option Ledger) → P stored → OfPending pending P
-    → P (stored_anew taken stored pending)
-found_sound P false stored pending h landed = h
-found_sound P true stored None h landed = h
-found_sound P true stored (Some changed) h landed = landed
+pub found_sound : (P : Ledger → Type 0) (taken : Bool) (stored : Ledger) (in_flight : Option Ledger) → P stored → OfInFlight in_flight P
+    → P (stored_anew taken stored in_flight)
+found_sound P false stored in_flight h flight = h
+found_sound P true stored None h flight = h
+found_sound P true stored (Some changed) h flight = flight
 
 -- what holds of a change in flight under a premise that is given
-pub pending_under : (T : Type 0) (pending : Option Ledger) (P : Ledger → Type 0) → T → OfPending pending (λ ledger. T → P ledger) → OfPending pending P
-pending_under T None P given h = tt
-pending_under T (Some changed) P given h = h given
+pub in_flight_under : (T : Type 0) (in_flight : Option Ledger) (P : Ledger → Type 0) → T → OfInFlight in_flight (λ ledger. T → P ledger)
+    → OfInFlight in_flight P
+in_flight_under T None P given h = tt
+in_flight_under T (Some changed) P given h = h given

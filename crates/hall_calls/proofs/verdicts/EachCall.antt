@@ -25,7 +25,7 @@ use Rattle.hall_model.specs.declared.command.Session.{Session}
 use Rattle.hall_model.specs.Acts.{Admits, IsAct}
 use Rattle.hall_model.specs.Calls.{Call, LogsOn, OfSession, OfWorker, OfAdmin, Kills, FailsOver, Restarts, Attaches, Cancels, Resubmits, SessionCall, LogsOff, Asks, Frees, FreesAll, Converts, RollsBack, call_of, only_reads, writes_store_first}
 use Rattle.hall_model.specs.Devices.{AsKnown, BackupFails, MayBeDone, StoreFails, Wanting, all_well, may_want, only, uses_file, uses_store}
-use Rattle.hall_model.specs.History.{doubted, is_unread, judged, pending_after, refused, stored_before_file, unfiled, without_stock}
+use Rattle.hall_model.specs.History.{doubted, in_flight_after, is_unread, judged, refused, stored_before_file, unfiled, without_stock}
 use Rattle.hall_model.specs.Sessions.{begun, session_at, without_session, with_session, with_fresh_unit, pair_of}
 use Rattle.hall_model.specs.State.{State}
 use Rattle.hall_model.specs.Step.{Found, Verdict, Refuses, Leaves, answer_of, ask_refusal, call_verdict, called, converting, entered, fault_refusal, found_in, granting, leaves, logon, own_verdict, session_call, unavailable, unless_refused, verdict}
@@ -85,8 +85,8 @@ fails s c after r h e uses writes =
     record {
       outcome = only StoreFails;
       possible = record { reading = tt; event = (ap leaves v, uses); lost = tt };
-      same = ap (λ x. refused (doubted (without_stock (call_of c) s) (call_of c) None (pending_after AsKnown s (call_of c) x)) refusal.StoreFault) v
-          ∙ ap (λ b. refused (doubted (without_stock (call_of c) s) (call_of c) None (if b then s.pending else Some after.stored)) refusal.StoreFault) writes;
+      same = ap (λ x. refused (doubted (without_stock (call_of c) s) (call_of c) None (in_flight_after AsKnown s (call_of c) x)) refusal.StoreFault) v
+          ∙ ap (λ b. refused (doubted (without_stock (call_of c) s) (call_of c) None (if b then s.in_flight else Some after.stored)) refusal.StoreFault) writes;
     }
 
 -- the disk of the backup file failed

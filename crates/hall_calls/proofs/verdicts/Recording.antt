@@ -213,13 +213,13 @@ module _ (sessions : List Session) (name : List ℕ) (x : Session) (found : sess
 
 -- ---- the change in flight
 
-pub landed_unit : (ledger : Ledger) (unit : UnitOfWork) (rows levels : List StoredInterval) → levels ≡ rows
+pub unit_in_flight : (ledger : Ledger) (unit : UnitOfWork) (rows levels : List StoredInterval) → levels ≡ rows
     → after_step ledger (Record unit rows) ≡ after_step ledger (Record unit levels)
-landed_unit ledger unit rows levels is = ap (λ ls. with_intervals ls (with_unit ledger unit)) (sym is)
+unit_in_flight ledger unit rows levels is = ap (λ ls. with_intervals ls (with_unit ledger unit)) (sym is)
 
-pub landed_numbers : (ledger : Ledger) (key : UnitKey) (drawn nums : List Number) (rows levels : List StoredInterval) → nums ≡ drawn → levels ≡ rows
+pub numbers_in_flight : (ledger : Ledger) (key : UnitKey) (drawn nums : List Number) (rows levels : List StoredInterval) → nums ≡ drawn → levels ≡ rows
     → after_step ledger (Draw key drawn rows) ≡ after_step ledger (Draw key nums levels)
-landed_numbers ledger key drawn nums rows levels a b = λ i. with_intervals (sym b i) (with_mark ledger key (Num (sym a i)))
+numbers_in_flight ledger key drawn nums rows levels a b = λ i. with_intervals (sym b i) (with_mark ledger key (Num (sym a i)))
 
 -- ---- how much there is to record
 

@@ -45,8 +45,8 @@ use Rattle.hall_model.specs.declared.command.Reply.{Reply}
 use Rattle.hall_model.specs.declared.command.Reply.TheVariants as reply
 use Rattle.hall_model.specs.declared.command.Session.{Session}
 use Rattle.hall_model.specs.Acts.{Admits, IsAct}
-use Rattle.hall_calls.specs.Written.{locks_posted, post_of}
-use Rattle.hall_model.specs.Calls.{OfAdmin, OfSession, OfWorker, Cancels, Commits, Posts, Reads, Resubmits, call_of, only_reads, writes_store_first}
+use Rattle.hall_calls.specs.Written.{locks_posted}
+use Rattle.hall_model.specs.Calls.{OfAdmin, OfSession, OfWorker, Cancels, Commits, Posts, Reads, Resubmits, call_of, only_reads, post_of, writes_store_first}
 use Rattle.hall_model.specs.Devices.{AllWell, AsKnown, BackupFails, Comes, IsTold, MayBeDone, MayRead, Shows, StoreFails, found_by, may_want, only, uses_file, uses_store}
 use Rattle.hall_model.specs.OpenUnits.{waits_with_locks}
 use Rattle.enq_server.specs.Server.{lasting, with_user}
@@ -55,7 +55,7 @@ use Rattle.update_records.specs.Marks.{has_status, status_of}
 use Rattle.model_laws.proofs.Resubmissions.{can_be_tried}
 use Rattle.std.proofs.lemmas.Bool.{and_from}
 use Rattle.hall_model.specs.Coming.{MayComeTo, outcome_in, outcome_of}
-use Rattle.hall_model.specs.History.{doubted, is_unread, judged, pending_after, refused, stored_before_file, unfiled, without_stock}
+use Rattle.hall_model.specs.History.{doubted, in_flight_after, is_unread, judged, refused, stored_before_file, unfiled, without_stock}
 use Rattle.hall_model.specs.Kept.{IsAhead}
 use Rattle.hall_model.specs.Orders.{first_unclaimed, is_claimed, order_for, order_of}
 use Rattle.hall_model.specs.Sessions.{is_called, owners_of, session_at, unit_key, with_next_unit, with_session, without_draws}
@@ -63,9 +63,11 @@ use Rattle.hall_model.specs.Numbers.{stocked, with_numbers}
 use Rattle.hall_model.specs.State.{State}
 use Rattle.hall_model.specs.Step.{Found, Verdict, Refuses, Leaves, ask_refusal, call_verdict, called, cancel, cancelled, cancelling, commit, committed, effects_in, found_in, leaves, locks_behind, locks_without, marked, numbered, own_verdict, passing, posted_reply, posting, reopened, reopening, reposted, resubmit, resubmitting, row_in, to_cancel, to_resubmit, unit_of, with_room}
 use Rattle.hall_calls.proofs.verdicts.EachCall.{admitted, at_state, fails, fails_filing, found_at, is_done, is_wanting, leaves_as, refuses}
-use Rattle.hall_calls.proofs.ending.StateBehind.{IsPart, posts_part}
 use Rattle.model_laws.proofs.FoundSessions.{found_in as found_all_in}
 use Rattle.model_laws.proofs.HandedLocks.{all_held, handed_good}
+use Rattle.ledger_steps.specs.declared.part.Part.{Part}
+use Rattle.ledger_steps.specs.Parts.{is_first}
+use Rattle.model_laws.proofs.PartOrders.{post_is}
 
 -- ---- orders
 
@@ -161,14 +163,14 @@ overflows s v h = ap (λ b. if b then Refuses (refusal.StoreFull s.mark_limit) e
 
 -- ---- posts
 
-abbrev pub Posting : ℕ → State → ℕ → (ℕ → UnitKey → Outcome) → Option UnitKey → Verdict
+abbrev pub Posting : Part → State → ℕ → (Part → UnitKey → Outcome) → Option UnitKey → Verdict
 Posting part s worker come o = elim o [ None ↦ Refuses refusal.NoOrder | Some unit ↦ with_room s (posting part s worker unit (come part unit)) ]
 
-held : (part : ℕ) (s : State) (ledger : Ledger) (orders : List (Option UnitKey)) (worker : ℕ) (o : Option UnitKey) → s.stored ≡ ledger → s.orders ≡ orders
+held : (part : Part) (s : State) (ledger : Ledger) (orders : List (Option UnitKey)) (worker : ℕ) (o : Option UnitKey) → s.stored ≡ ledger → s.orders ≡ orders
     → order_for part ledger orders worker ≡ o → order_for part s.stored s.orders worker ≡ o
 held part s ledger orders worker o g e f = (λ i. order_for part (g i) (e i) worker) ∙ f
 
-pub own_post : (part : ℕ) (c : Command) (found : Found) (s : State) (worker : ℕ) (o : Option UnitKey) → call_of c ≡ OfWorker worker (Posts part)
+pub own_post : (part : Part) (c : Command) (found : Found) (s : State) (worker : ℕ) (o : Option UnitKey) → call_of c ≡ OfWorker worker (Posts part)
     → order_for part s.stored s.orders worker ≡ o → own_verdict found s (call_of c) ≡ Posting part s worker found.part o
 own_post part c found s worker o posts at = ap (own_verdict found s) posts ∙ ap (Posting part s worker found.part) at
 
@@ -177,38 +179,38 @@ stay : (b : Bool) (before entries : List Entry) → (b ≡ true → before ≡ e
 stay true before entries f = f refl
 stay false before entries f = refl
 
-locks_stay : (part : ℕ) (before entries : List Entry) → (nat_eq part 1 ≡ true → before ≡ entries) → before ≡ locks_posted part before entries
-locks_stay part before entries f = stay (nat_eq part 1) before entries f
+locks_stay : (part : Part) (before entries : List Entry) → (is_first part ≡ true → before ≡ entries) → before ≡ locks_posted part before entries
+locks_stay part before entries f = stay (is_first part) before entries f
 
 locks_go : (b : Bool) (before entries left : List Entry) (unit : UnitKey) → (b ≡ true → before ≡ entries)
     → left ≡ (if b then freed_owner entries (Upd unit) else entries) → (if b then freed_owner before (Upd unit) else before) ≡ (if b then left else before)
 locks_go true before entries left unit f is = ap (λ xs. freed_owner xs (Upd unit)) (f refl) ∙ sym is
 locks_go false before entries left unit f is = refl
 
-pub posts_none : (part : ℕ) (s : State) (orders : List (Option UnitKey)) (entries : List Entry) (ledger : Ledger) (worker : ℕ) → IsPart part → s.orders ≡ orders
-    → (nat_eq part 1 ≡ true → s.locks ≡ entries) → s.stored ≡ ledger → Admits s (post_of part worker) → order_for part ledger orders worker ≡ None
+pub posts_none : (part : Part) (s : State) (orders : List (Option UnitKey)) (entries : List Entry) (ledger : Ledger) (worker : ℕ) → s.orders ≡ orders
+    → (is_first part ≡ true → s.locks ≡ entries) → s.stored ≡ ledger → Admits s (post_of part worker) → order_for part ledger orders worker ≡ None
     → IsAct s (post_of part worker) (record s { orders = orders; locks = locks_posted part s.locks entries; stored = ledger }) (reply.Refused refusal.NoOrder)
-posts_none part s orders entries ledger worker is e f g room none =
+posts_none part s orders entries ledger worker e f g room none =
     let c = post_of part worker in
     at_state _ _ s _ _ (λ i. record s { orders = e i; locks = locks_stay part s.locks entries f i; stored = g i })
     (refuses s c refusal.NoOrder room
-    (own_post part c (found_in s) s worker None (posts_part part worker is) (held part s ledger orders worker None g e none)))
+    (own_post part c (found_in s) s worker None (post_is part worker) (held part s ledger orders worker None g e none)))
 
-pub posts_full : (part : ℕ) (s : State) (orders : List (Option UnitKey)) (entries : List Entry) (ledger : Ledger) (limit worker : ℕ) (unit : UnitKey)
-    → IsPart part → s.orders ≡ orders → (nat_eq part 1 ≡ true → s.locks ≡ entries) → s.stored ≡ ledger → s.mark_limit ≡ limit → Admits s (post_of part worker)
+pub posts_full : (part : Part) (s : State) (orders : List (Option UnitKey)) (entries : List Entry) (ledger : Ledger) (limit worker : ℕ) (unit : UnitKey)
+    → s.orders ≡ orders → (is_first part ≡ true → s.locks ≡ entries) → s.stored ≡ ledger → s.mark_limit ≡ limit → Admits s (post_of part worker)
     → order_for part ledger orders worker ≡ Some unit → nat_le limit (length ledger.marks) ≡ true
     → IsAct s (post_of part worker) (record s { orders = orders; locks = locks_posted part s.locks entries; stored = ledger })
     (reply.Refused (refusal.StoreFull limit))
-posts_full part s orders entries ledger limit worker unit is e f g m room found full =
+posts_full part s orders entries ledger limit worker unit e f g m room found full =
     let c = post_of part worker in
     subst (λ n. IsAct s c (record s { orders = orders; locks = locks_posted part s.locks entries; stored = ledger }) (reply.Refused (refusal.StoreFull n))) m
     (at_state _ _ s _ _ (λ i. record s { orders = e i; locks = locks_stay part s.locks entries f i; stored = g i })
     (refuses s c (refusal.StoreFull s.mark_limit) room
-    (own_post part c (found_in s) s worker (Some unit) (posts_part part worker is) (held part s ledger orders worker (Some unit) g e found)
+    (own_post part c (found_in s) s worker (Some unit) (post_is part worker) (held part s ledger orders worker (Some unit) g e found)
     ∙ overflows s _ (full_as s limit ledger true m g full))))
 
 -- a part that comes to this
-pub comes : (part : ℕ) (c : Command) (s : State) (worker : ℕ) (unit : UnitKey) (o : Outcome) → call_of c ≡ OfWorker worker (Posts part) → Admits s c
+pub comes : (part : Part) (c : Command) (s : State) (worker : ℕ) (unit : UnitKey) (o : Outcome) → call_of c ≡ OfWorker worker (Posts part) → Admits s c
     → order_for part s.stored s.orders worker ≡ Some unit → is_store_full s ≡ false → MayComeTo s.told s.stored part unit o
     → IsAct s c (marked part s worker unit (kind_for part o)) (posted_reply part unit o)
 comes part c s worker unit o posts room at space may =
@@ -223,19 +225,19 @@ comes part c s worker unit o posts room at space may =
       same = ap (judged s) (admitted found s c room ∙ own_post part c found s worker (Some unit) posts at ∙ fits s _ space);
     }
 
-pub posts : (part : ℕ) (s : State) (told : Bool) (orders after : List (Option UnitKey)) (entries left : List Entry) (ledger new : Ledger) (limit worker : ℕ)
-    (unit : UnitKey) (o : Outcome) → IsPart part → s.told ≡ told → s.orders ≡ orders → (nat_eq part 1 ≡ true → s.locks ≡ entries) → s.stored ≡ ledger
+pub posts : (part : Part) (s : State) (told : Bool) (orders after : List (Option UnitKey)) (entries left : List Entry) (ledger new : Ledger) (limit worker : ℕ)
+    (unit : UnitKey) (o : Outcome) → s.told ≡ told → s.orders ≡ orders → (is_first part ≡ true → s.locks ≡ entries) → s.stored ≡ ledger
     → s.mark_limit ≡ limit → Admits s (post_of part worker) → order_for part ledger orders worker ≡ Some unit → nat_le limit (length ledger.marks) ≡ false
     → MayComeTo told ledger part unit o → after ≡ set orders worker None → left ≡ locks_behind part entries unit → new ≡ with_mark ledger unit (kind_for part o)
     → IsAct s (post_of part worker) (record s { orders = after; locks = locks_posted part s.locks left; stored = new }) (posted_reply part unit o)
-posts part s told orders after entries left ledger new limit worker unit o is t e f g m room found space may a b c =
+posts part s told orders after entries left ledger new limit worker unit o t e f g m room found space may a b c =
     let e' : set s.orders worker None ≡ after = ap (λ xs. set xs worker None) e ∙ sym a in
-    let f' : locks_behind part s.locks unit ≡ locks_posted part s.locks left = locks_go (nat_eq part 1) s.locks entries left unit f b in
+    let f' : locks_behind part s.locks unit ≡ locks_posted part s.locks left = locks_go (is_first part) s.locks entries left unit f b in
     let g' : with_mark s.stored unit (kind_for part o) ≡ new = ap (λ l. with_mark l unit (kind_for part o)) g ∙ sym c in
     let may' : MayComeTo s.told s.stored part unit o = subst (λ x. MayComeTo x s.stored part unit o) (sym t)
     (subst (λ l. MayComeTo told l part unit o) (sym g) may) in
     at_state _ _ (marked part s worker unit (kind_for part o)) _ _ (λ i. record s { orders = e' i; locks = f' i; stored = g' i })
-    (comes part (post_of part worker) s worker unit o (posts_part part worker is) room (held part s ledger orders worker (Some unit) g e found)
+    (comes part (post_of part worker) s worker unit o (post_is part worker) room (held part s ledger orders worker (Some unit) g e found)
     (full_as s limit ledger false m g space) may')
 
 outcome_is : (r : Result Tables EffectFault) (o : Outcome) → IsOutcome r o → o ≡ outcome_of r
@@ -244,14 +246,14 @@ outcome_is (Err (effect.Refused index reason)) o h = h
 outcome_is (Err effect.NoMemory) o h = absurd h
 
 -- what the books make ready may come
-pub may_come : (part : ℕ) (told : Bool) (rows : Option Rows) (ledger : Ledger) (unit : UnitKey) (o : Outcome) → told ≡ is_some rows
+pub may_come : (part : Part) (told : Bool) (rows : Option Rows) (ledger : Ledger) (unit : UnitKey) (o : Outcome) → told ≡ is_some rows
     → IfSome rows (λ _. IsOutcome (applied (effects_of part ledger.units unit) (tables_of ledger.units ledger.marks)) o)
     → MayCome (effects_of part ledger.units unit) o → MayComeTo told ledger part unit o
 may_come part told None ledger unit o t known possible = subst (λ b. MayComeTo b ledger part unit o) (sym t) possible
 may_come part told (Some rows) ledger unit o t known possible = subst (λ b. MayComeTo b ledger part unit o) (sym t) (outcome_is _ o known)
 
 -- the store fails behind what a part came to
-failed_post : (part : ℕ) (c : Command) (s : State) (worker : ℕ) (unit : UnitKey) (o : Outcome) → call_of c ≡ OfWorker worker (Posts part) → Admits s c
+failed_post : (part : Part) (c : Command) (s : State) (worker : ℕ) (unit : UnitKey) (o : Outcome) → call_of c ≡ OfWorker worker (Posts part) → Admits s c
     → order_for part s.stored s.orders worker ≡ Some unit → is_store_full s ≡ false → MayComeTo s.told s.stored part unit o
     → IsAct s c (doubted (without_stock (call_of c) s) (call_of c) None (Some (with_mark s.stored unit (kind_for part o)))) (reply.Refused refusal.StoreFault)
 failed_post part c s worker unit o posts room at space may =
@@ -265,50 +267,51 @@ failed_post part c s worker unit o posts room at space may =
         event = (ap leaves v, ap (uses_store s) posts);
         lost = tt;
       };
-      same = ap (λ w. refused (doubted (without_stock call s) call None (pending_after (Comes o) s call w)) refusal.StoreFault) v
-          ∙ ap (λ b. refused (doubted (without_stock call s) call None (if b then s.pending else Some (with_mark s.stored unit (kind_for part o))))
+      same = ap (λ w. refused (doubted (without_stock call s) call None (in_flight_after (Comes o) s call w)) refusal.StoreFault) v
+          ∙ ap (λ b. refused (doubted (without_stock call s) call None (if b then s.in_flight else Some (with_mark s.stored unit (kind_for part o))))
           refusal.StoreFault)
           (λ i. only_reads (posts i) || is_unread (Comes o) (posts i));
     }
 
-pub posts_in_doubt : (part : ℕ) (s : State) (told : Bool) (orders : List (Option UnitKey)) (ledger : Ledger) (limit worker : ℕ) (unit : UnitKey) (o : Outcome)
-    → IsPart part → s.told ≡ told → s.orders ≡ orders → s.stored ≡ ledger → s.mark_limit ≡ limit → Admits s (post_of part worker)
+pub posts_in_doubt : (part : Part) (s : State) (told : Bool) (orders : List (Option UnitKey)) (ledger : Ledger) (limit worker : ℕ) (unit : UnitKey)
+    (o : Outcome)
+    → s.told ≡ told → s.orders ≡ orders → s.stored ≡ ledger → s.mark_limit ≡ limit → Admits s (post_of part worker)
     → order_for part ledger orders worker ≡ Some unit → nat_le limit (length ledger.marks) ≡ false → MayComeTo told ledger part unit o
     → IsAct s (post_of part worker)
     (doubted (without_stock (call_of (post_of part worker)) s) (call_of (post_of part worker)) None (Some (with_mark s.stored unit (kind_for part o))))
     (reply.Refused refusal.StoreFault)
-posts_in_doubt part s told orders ledger limit worker unit o is t e g m room found space may =
+posts_in_doubt part s told orders ledger limit worker unit o t e g m room found space may =
     let may' : MayComeTo s.told s.stored part unit o = subst (λ x. MayComeTo x s.stored part unit o) (sym t)
     (subst (λ l. MayComeTo told l part unit o) (sym g) may) in
-    failed_post part (post_of part worker) s worker unit o (posts_part part worker is) room (held part s ledger orders worker (Some unit) g e found)
+    failed_post part (post_of part worker) s worker unit o (post_is part worker) room (held part s ledger orders worker (Some unit) g e found)
     (full_as s limit ledger false m g space) may'
 
 -- the rows weren't read by which it is posted: nothing is in flight then
-pub posts_unread : (part : ℕ) (s : State) (orders : List (Option UnitKey)) (ledger : Ledger) (limit worker : ℕ) (unit : UnitKey) → IsPart part
-    → s.orders ≡ orders → s.stored ≡ ledger → s.mark_limit ≡ limit → s.pending ≡ None → Admits s (post_of part worker)
+pub posts_unread : (part : Part) (s : State) (orders : List (Option UnitKey)) (ledger : Ledger) (limit worker : ℕ) (unit : UnitKey)
+    → s.orders ≡ orders → s.stored ≡ ledger → s.mark_limit ≡ limit → s.in_flight ≡ None → Admits s (post_of part worker)
     → order_for part ledger orders worker ≡ Some unit → nat_le limit (length ledger.marks) ≡ false
     → IsAct s (post_of part worker) (doubted (without_stock (call_of (post_of part worker)) s) (call_of (post_of part worker)) None None)
     (reply.Refused refusal.StoreFault)
-posts_unread part s orders ledger limit worker unit is e g m none room found space =
+posts_unread part s orders ledger limit worker unit e g m none room found space =
     let c = post_of part worker in
     let call = call_of c in
     let o = outcome_in s.stored part unit in
-    let by = posts_part part worker is in
+    let by = post_is part worker in
     let v = admitted (found_in s) s c room ∙ own_post part c (found_in s) s worker (Some unit) by (held part s ledger orders worker (Some unit) g e found)
     ∙ fits s _ (full_as s limit ledger false m g space) in
     record {
       outcome = only StoreFails;
       possible = record { reading = tt; event = (ap leaves v, ap (uses_store s) by); lost = tt };
-      same = ap (λ w. refused (doubted (without_stock call s) call None (pending_after AsKnown s call w)) refusal.StoreFault) v
-          ∙ ap (λ b. refused (doubted (without_stock call s) call None (if b then s.pending else Some (with_mark s.stored unit (kind_for part o))))
+      same = ap (λ w. refused (doubted (without_stock call s) call None (in_flight_after AsKnown s call w)) refusal.StoreFault) v
+          ∙ ap (λ b. refused (doubted (without_stock call s) call None (if b then s.in_flight else Some (with_mark s.stored unit (kind_for part o))))
           refusal.StoreFault)
           (λ i. only_reads (by i) || is_unread AsKnown (by i))
           ∙ ap (λ q. refused (doubted (without_stock call s) call None q) refusal.StoreFault) none;
     }
 
 -- the disk fails behind the mark of a V1 part that comes to this, of a unit whose list stood in the file
-unfiled_post : (part : ℕ) (c : Command) (s : State) (worker : ℕ) (unit : UnitKey) (o : Outcome) → call_of c ≡ OfWorker worker (Posts part)
-    → (nat_eq part 1 && waits_with_locks s.stored unit) ≡ true → Admits s c → order_for part s.stored s.orders worker ≡ Some unit → is_store_full s ≡ false
+unfiled_post : (part : Part) (c : Command) (s : State) (worker : ℕ) (unit : UnitKey) (o : Outcome) → call_of c ≡ OfWorker worker (Posts part)
+    → (is_first part && waits_with_locks s.stored unit) ≡ true → Admits s c → order_for part s.stored s.orders worker ≡ Some unit → is_store_full s ≡ false
     → MayComeTo s.told s.stored part unit o
     → IsAct s c (unfiled s (call_of c) None (with_mark s.stored unit (kind_for part o))) (reply.Refused refusal.BackupFault)
 unfiled_post part c s worker unit o posts listed room at space may =
@@ -318,7 +321,7 @@ unfiled_post part c s worker unit o posts listed room at space may =
       outcome = record { event = BackupFails; reading = Comes o; lost = false };
       possible = record {
         reading = subst (MayRead (Comes o) s) (sym posts) (subst (λ x. IfSome x (λ u. MayComeTo s.told s.stored part u o)) (sym at) may);
-        event = (ap leaves v, ap (uses_file s) posts ∙ ap (λ x. nat_eq part 1 && option_map_or (waits_with_locks s.stored) x false) at ∙ listed);
+        event = (ap leaves v, ap (uses_file s) posts ∙ ap (λ x. is_first part && option_map_or (waits_with_locks s.stored) x false) at ∙ listed);
         lost = tt;
       };
       same = ap (λ w. refused (unfiled s (call_of c) None (stored_before_file s (call_of c) w)) refusal.BackupFault) v
@@ -326,26 +329,26 @@ unfiled_post part c s worker unit o posts listed room at space may =
           (ap writes_store_first posts);
     }
 
-pub posts_unfiled : (part : ℕ) (s : State) (told : Bool) (orders : List (Option UnitKey)) (ledger new : Ledger) (limit worker : ℕ) (unit : UnitKey)
-    (o : Outcome) → IsPart part → (nat_eq part 1 && waits_with_locks ledger unit) ≡ true → s.told ≡ told → s.orders ≡ orders → s.stored ≡ ledger
+pub posts_unfiled : (part : Part) (s : State) (told : Bool) (orders : List (Option UnitKey)) (ledger new : Ledger) (limit worker : ℕ) (unit : UnitKey)
+    (o : Outcome) → (is_first part && waits_with_locks ledger unit) ≡ true → s.told ≡ told → s.orders ≡ orders → s.stored ≡ ledger
     → s.mark_limit ≡ limit → Admits s (post_of part worker) → order_for part ledger orders worker ≡ Some unit → nat_le limit (length ledger.marks) ≡ false
     → MayComeTo told ledger part unit o → new ≡ with_mark ledger unit (kind_for part o)
     → IsAct s (post_of part worker) (unfiled s (call_of (post_of part worker)) None new) (reply.Refused refusal.BackupFault)
-posts_unfiled part s told orders ledger new limit worker unit o is listed t e g m room found space may c =
+posts_unfiled part s told orders ledger new limit worker unit o listed t e g m room found space may c =
     let g' : with_mark s.stored unit (kind_for part o) ≡ new = ap (λ l. with_mark l unit (kind_for part o)) g ∙ sym c in
     let may' : MayComeTo s.told s.stored part unit o = subst (λ x. MayComeTo x s.stored part unit o) (sym t)
     (subst (λ l. MayComeTo told l part unit o) (sym g) may) in
     subst (λ l. IsAct s (post_of part worker) (unfiled s (call_of (post_of part worker)) None l) (reply.Refused refusal.BackupFault)) g'
-    (unfiled_post part (post_of part worker) s worker unit o (posts_part part worker is) (ap (λ l. nat_eq part 1 && waits_with_locks l unit) g ∙ listed) room
+    (unfiled_post part (post_of part worker) s worker unit o (post_is part worker) (ap (λ l. is_first part && waits_with_locks l unit) g ∙ listed) room
     (held part s ledger orders worker (Some unit) g e found) (full_as s limit ledger false m g space) may')
 
-pub posts_wanting : (part : ℕ) (s : State) (orders : List (Option UnitKey)) (entries : List Entry) (ledger new : Ledger) (worker : ℕ) (unit : UnitKey)
-    → IsPart part → s.orders ≡ orders → (nat_eq part 1 ≡ true → s.locks ≡ entries) → s.stored ≡ ledger → new ≡ ledger → Admits s (post_of part worker)
+pub posts_wanting : (part : Part) (s : State) (orders : List (Option UnitKey)) (entries : List Entry) (ledger new : Ledger) (worker : ℕ) (unit : UnitKey)
+    → s.orders ≡ orders → (is_first part ≡ true → s.locks ≡ entries) → s.stored ≡ ledger → new ≡ ledger → Admits s (post_of part worker)
     → order_for part ledger orders worker ≡ Some unit → IsAct s (post_of part worker)
     (record s { orders = orders; locks = locks_posted part s.locks entries; stored = new }) (reply.Refused refusal.NoMemory)
-posts_wanting part s orders entries ledger new worker unit is e f g kept room found =
+posts_wanting part s orders entries ledger new worker unit e f g kept room found =
     let g' : s.stored ≡ new = g ∙ sym kept in
-    let by = posts_part part worker is in
+    let by = post_is part worker in
     at_state _ _ s _ _ (λ i. record s { orders = e i; locks = locks_stay part s.locks entries f i; stored = g' i })
     (is_wanting s (post_of part worker) room.served (ap (may_want s _) by ∙ ap is_some (held part s ledger orders worker (Some unit) g e found)))
 
@@ -545,7 +548,7 @@ reads_wanting s sessions ledger new name table key x e g room at kept =
     (is_wanting s (command.Read name table key) room.served refl)
 
 -- a read that failed leaves no change in flight
-pub reads_in_doubt : (s : State) (sessions : List Session) (name table key : List ℕ) (x : Session) → s.sessions ≡ sessions → s.pending ≡ None
+pub reads_in_doubt : (s : State) (sessions : List Session) (name table key : List ℕ) (x : Session) → s.sessions ≡ sessions → s.in_flight ≡ None
     → Admits s (command.Read name table key) → session_at sessions name ≡ Some x
     → IsAct s (command.Read name table key) (doubted s (OfSession name (Reads table key)) None None) (reply.Refused refusal.StoreFault)
 reads_in_doubt s sessions name table key x e none room at =
@@ -553,7 +556,7 @@ reads_in_doubt s sessions name table key x e none room at =
     record {
       outcome = only StoreFails;
       possible = record { reading = tt; event = (ap leaves v, refl); lost = tt };
-      same = ap (λ w. refused (doubted s (OfSession name (Reads table key)) None (pending_after AsKnown s (OfSession name (Reads table key)) w))
+      same = ap (λ w. refused (doubted s (OfSession name (Reads table key)) None (in_flight_after AsKnown s (OfSession name (Reads table key)) w))
           refusal.StoreFault) v
           ∙ ap (λ p. refused (doubted s (OfSession name (Reads table key)) None p) refusal.StoreFault) none;
     }

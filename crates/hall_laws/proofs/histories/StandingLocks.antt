@@ -1,7 +1,7 @@
 -- A unit that was committed waits for its V1 part with its locks until a call ends that, and while there is a lock server they
 -- stand.
 use Rattle.std.proofs.Common.{◌≡◌, ◌≢◌, ℕ, ◌+◌, ◌≤◌, Bool, true, false, List, [], ◌∷◌, ◌++◌, refl, sym, ap, ◌∙◌, subst}
-use Rattle.std.specs.Prelude.{Contains, IsTrue, if◌then◌else◌, nat_eq, nat_le, Some, None}
+use Rattle.std.specs.Prelude.{Contains, IsTrue, if◌then◌else◌, nat_le, Some, None}
 use Rattle.std.proofs.lemmas.Bool.{or_parts}
 use Rattle.std.proofs.lemmas.List.Sums.{fold-append}
 use Rattle.enq_base.specs.Owners.{same_owner, same_unit}
@@ -55,7 +55,7 @@ use Rattle.model_laws.proofs.ByCall.{OfEach, by_call, by_event, by_stock, in_dou
 use Rattle.model_laws.proofs.PartOrders.{held_for}
 use Rattle.hall_laws.proofs.starting.FirstState.{IsFirstTable, first_few, first_open, first_sound, first_steady}
 use Rattle.model_laws.proofs.NotedCalls.{by_noting}
-use Rattle.hall_laws.proofs.keeping.Unchanged.{verdict_condition, verdict_pending}
+use Rattle.hall_laws.proofs.keeping.Unchanged.{verdict_condition, verdict_in_flight}
 use Rattle.hall_laws.proofs.keeping.UnitsToCome.{open_unheard}
 use Rattle.model_laws.proofs.OtherStatuses.{apart_by, apart_by_status, marked_other, numbers_leave, recorded_open, status_in}
 use Rattle.hall_laws.proofs.keeping.InFlight.{HoldsAll, step_all}
@@ -65,6 +65,8 @@ use Rattle.model_laws.proofs.BesideRecorded.{entries_beside}
 use Rattle.model_laws.proofs.EachLock.{recorded_here}
 use Rattle.hall_laws.proofs.histories.NotedSteps.{AnswersFrom, answers_before, answers_behind}
 use Rattle.hall_laws.proofs.histories.WithoutServer.{anew_as_before, unserved}
+use Rattle.ledger_steps.specs.declared.part.Part.{Part}
+use Rattle.ledger_steps.specs.Parts.{is_first}
 
 -- What a call leaves of the units that wait, by its answer: a unit whose wait it doesn't end waits with the same stored locks.
 record Stands (c : Call) (before : Ledger) (r : Reply) (after : Ledger) : Type 0 where
@@ -133,15 +135,15 @@ StandsBy c ledger unit one two r q first =
     → Stands c ledger (if first then r else q) (with_mark ledger unit (if first then one else two))
 
 -- a part, V1 or else V2, of a unit that waits for it
-posted-stands : {c : Call} (part : ℕ) (ledger : Ledger) (unit : UnitKey) (o : Outcome) → WaitsFor part ledger unit
+posted-stands : {c : Call} (part : Part) (ledger : Ledger) (unit : UnitKey) (o : Outcome) → WaitsFor part ledger unit
     → Stands c ledger (posted_reply part unit o) (with_mark ledger unit (kind_for part o))
 posted-stands {c} part ledger unit outcome.Done waits =
-    elim (nat_eq part 1) as (StandsBy c ledger unit mark.V1 mark.V2 (reply.Posted unit) (reply.Closed unit)) [
+    elim (is_first part) as (StandsBy c ledger unit mark.V1 mark.V2 (reply.Posted unit) (reply.Closed unit)) [
       | true ↦ λ w. marked-stands ledger unit mark.V1 (reply.Posted unit) (λ u. refl)
       | false ↦ λ w. beside-stands ledger unit mark.V2 Posted (reply.Closed unit) w (λ e. cc)
     ] waits
 posted-stands {c} part ledger unit (outcome.Refused index reason) waits =
-    elim (nat_eq part 1)
+    elim (is_first part)
     as (StandsBy c ledger unit (mark.Bad1 index reason) (mark.Bad2 index reason) (reply.Bad unit index reason) (reply.Bad2 unit index reason)) [
       | true ↦ λ w. marked-stands ledger unit (mark.Bad1 index reason) (reply.Bad unit index reason) (λ u. refl)
       | false ↦ λ w. beside-stands ledger unit (mark.Bad2 index reason) Posted (reply.Bad2 unit index reason) w (λ e. cc)
@@ -153,10 +155,10 @@ abbrev StandsIn : State → Call → Served → Type 0
 StandsIn s call r = Stands call s.stored r.reply r.state.stored
 
 -- a restart finds what was stored before, as nothing is in flight
-anew-stands : {c : Call} (taken : Bool) (s : State) (r : Reply) → s.pending ≡ None → Stands c s.stored r (stored_anew taken s.stored s.pending)
+anew-stands : {c : Call} (taken : Bool) (s : State) (r : Reply) → s.in_flight ≡ None → Stands c s.stored r (stored_anew taken s.stored s.in_flight)
 anew-stands {c} taken s r nothing = subst (Stands c s.stored r) (sym (anew_as_before taken s nothing)) (stands_still s.stored r)
 
-each-stands : (found : Found) (s : State) → IsSteady s → s.pending ≡ None → OfEach (λ call v. StandsIn s call (judged s v)) found s
+each-stands : (found : Found) (s : State) → IsSteady s → s.in_flight ≡ None → OfEach (λ call v. StandsIn s call (judged s v)) found s
 each-stands found s steady nothing = record {
   refuses = λ call r plain. stands_still s.stored _;
   enters = λ name user free. stands_still s.stored _;
@@ -201,7 +203,7 @@ failing-stands s call =
     by_stock (λ c t. Stands c s.stored (reply.Refused refusal.StoreFault) t.stored) s
     (λ name parts stock. stands_still s.stored _) (λ c. stands_still s.stored _) call
 
-stepped-stands : (s : State) (m : Made) → IsSteady s → s.pending ≡ None → StandsIn s (call_of m.call.command) (again s m)
+stepped-stands : (s : State) (m : Made) → IsSteady s → s.in_flight ≡ None → StandsIn s (call_of m.call.command) (again s m)
 stepped-stands s m steady nothing =
     let c = m.call.command in
     let Q : Served → Type 0 = StandsIn s (call_of c) in
@@ -214,15 +216,15 @@ stepped-stands s m steady nothing =
 -- ---- nothing is in flight
 
 abbrev QuietUnless : UnitKey → Call → Served → Type 0
-QuietUnless unit call r = ends_wait unit call r.reply ≡ false → r.state.pending ≡ None
+QuietUnless unit call r = ends_wait unit call r.reply ≡ false → r.state.in_flight ≡ None
 
 -- as long as the store doesn't fail
-stepped-quiet : (unit : UnitKey) (s : State) (m : Made) → s.pending ≡ None → QuietUnless unit (call_of m.call.command) (again s m)
+stepped-quiet : (unit : UnitKey) (s : State) (m : Made) → s.in_flight ≡ None → QuietUnless unit (call_of m.call.command) (again s m)
 stepped-quiet unit s m nothing =
     let c = m.call.command in
     let Q : Served → Type 0 = QuietUnless unit (call_of c) in
     let h =
-    by_event Q m.outcome s c (λ lost done h. h) (λ found on. verdict_pending (λ o. o ≡ None) found s (call_of c) nothing refl) (λ on. nothing) (λ on. nothing)
+    by_event Q m.outcome s c (λ lost done h. h) (λ found on. verdict_in_flight (λ o. o ≡ None) found s (call_of c) nothing refl) (λ on. nothing) (λ on. nothing)
     (λ reading on. absurd (ended on)) (λ reading on. nothing) (λ read r on. nothing) in
     by_noting Q m.call.line c (takes_flight m.outcome) (served m.outcome s c) h h
 
@@ -384,7 +386,7 @@ record StaysStored (unit : UnitKey) (before after : Ledger) : Type 0 where
   waits : IsOpenUnit after unit
   same : entries_of after.units unit ≡ entries_of before.units unit
 
-stays_stored : (unit : UnitKey) (t : State) (ms : List Made) → IsReached t → AnswersFrom t ms → NoneEndsWait unit ms → t.pending ≡ None
+stays_stored : (unit : UnitKey) (t : State) (ms : List Made) → IsReached t → AnswersFrom t ms → NoneEndsWait unit ms → t.in_flight ≡ None
     → IsOpenUnit t.stored unit
     → StaysStored unit t.stored (state_after t ms).stored
 stays_stored unit t [] reached answers on nothing waits = record { waits = waits; same = refl }
@@ -436,11 +438,11 @@ stays_up unit t (m ∷ ms) answers on off up =
     stays_up unit (recalled t m) ms answers.1 ons.1 offs.1 (recalled-up unit t m answers.0 ons.0 offs.0 up)
 
 -- while the server is up nothing is in flight
-quiet_up : (t : State) → IsReached t → t.condition ≡ condition.Up → t.pending ≡ None
-quiet_up t reached up = subst (λ c. OutsideDoubt c (t.pending ≡ None)) up reached.all.holds.steady.settled
+quiet_up : (t : State) → IsReached t → t.condition ≡ condition.Up → t.in_flight ≡ None
+quiet_up t reached up = subst (λ c. OutsideDoubt c (t.in_flight ≡ None)) up reached.all.holds.steady.settled
 
 -- the locks that were stored with it stand where there is a lock server, and its locks can be told
-stays_locked : (unit : UnitKey) (t : State) (ms : List Made) → IsReached t → AnswersFrom t ms → NoneEndsWait unit ms → t.pending ≡ None
+stays_locked : (unit : UnitKey) (t : State) (ms : List Made) → IsReached t → AnswersFrom t ms → NoneEndsWait unit ms → t.in_flight ≡ None
     → IsOpenUnit t.stored unit → IsTrue (is_honest (state_after t ms))
     → (state_after t ms).condition ≡ condition.Up → (e : Entry) → Among (entries_of t.stored.units unit) e → Contains (state_after t ms).locks e
 stays_locked unit t ms reached answers on nothing waits honest up e k =
@@ -496,7 +498,7 @@ module _ (limit mark_limit : ℕ) (intervals : List Interval) (told linked : Boo
       };
       sound = first_sound limit mark_limit intervals told linked ledger fits begun;
       open_units = first_open limit mark_limit intervals told linked ledger fits begun;
-      landing = tt;
+      state_in_flight = tt;
     };
   }
 

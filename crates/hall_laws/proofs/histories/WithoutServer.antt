@@ -34,6 +34,6 @@ unserved Q found s call none wants refuse =
     (λ e. not_alone s.condition call none wants (none_later (caller_refusal s.sessions call) _ (none_later (barred s call) _ e))) refuse
 
 -- where nothing is in flight a restart finds what was stored before
-pub anew_as_before : (taken : Bool) (s : State) → s.pending ≡ None → stored_anew taken s.stored s.pending ≡ s.stored
+pub anew_as_before : (taken : Bool) (s : State) → s.in_flight ≡ None → stored_anew taken s.stored s.in_flight ≡ s.stored
 anew_as_before true s none = ap (stored_anew true s.stored) none
 anew_as_before false s none = refl

@@ -1,5 +1,5 @@
 -- What each call leaves of the names of the sessions, and of the numbers that they have drawn.
-use Rattle.std.proofs.Common.{◌≡◌, ℕ, ◌+◌, ◌≤◌, Bool, true, false, cond, List, [], ◌∷◌, ◌++◌, nat_eq, refl, sym, ap, ◌∙◌, subst, arith}
+use Rattle.std.proofs.Common.{◌≡◌, ℕ, ◌+◌, ◌≤◌, Bool, true, false, cond, List, [], ◌∷◌, ◌++◌, refl, sym, ap, ◌∙◌, subst, arith}
 use Rattle.std.specs.Prelude.{Contains, count_by, sum_by, if◌then◌else◌, is_some, nat_le, nat_lt, not, ◌&&◌, Option, Some, None}
 use Rattle.std.specs.List.{AllByRecursion, filter, find}
 use Rattle.std.specs.Str.{bytes_eq}
@@ -48,6 +48,8 @@ use Rattle.model_laws.proofs.ByCall.{CanDraw}
 use Rattle.model_laws.proofs.OtherStatuses.{recorded_other, status_in}
 use Rattle.model_laws.proofs.EachLock.{recorded_here}
 use Rattle.model_laws.proofs.BlockLevels.{AreRightIn, blocks, up_to}
+use Rattle.ledger_steps.specs.declared.part.Part.{Part}
+use Rattle.ledger_steps.specs.Parts.{is_first}
 
 abbrev draws_of : Session → List Num
 draws_of x = x.draws
@@ -141,11 +143,11 @@ drawn_back s name x change at none h = session_gives_back draws_of (is_called na
 abbrev pub CommitsNone : MarkKind → Type 0
 CommitsNone kind = (units : List UnitOfWork) (seq : ℕ) (key : UnitKey) → numbers_in units (record { seq = seq; unit = key; kind = kind }) ≡ []
 
-pub post_commits_none : (part : ℕ) (o : Outcome) → CommitsNone (kind_for part o)
-post_commits_none part outcome.Done units seq key = elim (nat_eq part 1)
+pub post_commits_none : (part : Part) (o : Outcome) → CommitsNone (kind_for part o)
+post_commits_none part outcome.Done units seq key = elim (is_first part)
     as (λ b. numbers_in units (record { seq = seq; unit = key; kind = if b then mark.V1 else mark.V2 }) ≡ []) [ true ↦ refl | false ↦ refl ]
 post_commits_none part (outcome.Refused index reason) units seq key =
-    elim (nat_eq part 1) as (λ b. numbers_in units (record { seq = seq; unit = key; kind = if b then mark.Bad1 index reason else mark.Bad2 index reason }) ≡ [])
+    elim (is_first part) as (λ b. numbers_in units (record { seq = seq; unit = key; kind = if b then mark.Bad1 index reason else mark.Bad2 index reason }) ≡ [])
     [ true ↦ refl | false ↦ refl ]
 
 pub drawn_marked : (s : State) (key : UnitKey) (kind : MarkKind) → CommitsNone kind → IsDrawn s

@@ -1,6 +1,6 @@
 -- What each call keeps.
 use Rattle.std.proofs.Common.{◌≡◌, ℕ, ◌+◌, ◌≤◌, Bool, true, false, List, [], ◌∷◌, ◌++◌, length, fold, set, refl, sym, ap, ◌∙◌, subst, arith, cond}
-use Rattle.std.specs.Prelude.{◌&&◌, ◌||◌, if◌then◌else◌, is_some, nat_eq, nat_le, nat_lt, not, Option, Some, None, Ok}
+use Rattle.std.specs.Prelude.{◌&&◌, ◌||◌, if◌then◌else◌, is_some, nat_le, nat_lt, not, Option, Some, None, Ok}
 use Rattle.std.specs.List.{AllByRecursion, filter, find, list_all}
 use Rattle.std.proofs.lemmas.List.{length-set}
 use Rattle.std.proofs.lemmas.Bool.{and_parts, false≢true, or_from}
@@ -35,7 +35,7 @@ use Rattle.hall_model.specs.declared.command.Command.{Command}
 use Rattle.hall_model.specs.declared.command.PastEntry.{PastEntry}
 use Rattle.hall_model.specs.declared.command.Session.{Session}
 use Rattle.hall_model.specs.Devices.{DeviceOutcome, Event, AllWell, Wanting, StoreFails, BackupFails, LinkFails, NotRemade, IsAllowed, IsTold, MayRead, found_by, Reading, AsKnown, Comes, Shows, Reopens, Hands}
-use Rattle.hall_model.specs.History.{doubted, ends_in, had_lock, judged, known_behind, pending_after, read_anew, served, stored_before_file, unfiled, without_stock}
+use Rattle.hall_model.specs.History.{doubted, ends_in, had_lock, in_flight_after, judged, known_behind, read_anew, served, stored_before_file, unfiled, without_stock}
 use Rattle.number_ranges.specs.Intervals.{block_level, is_buffered, with_level}
 use Rattle.number_ranges.specs.declared.interval.Interval.{Interval}
 use Rattle.ledger_steps.specs.Intervals.{with_levels}
@@ -44,8 +44,8 @@ use Rattle.ledger_steps.specs.Drawn.{AreDrawnRight, handed_out, num_of, passed, 
 use Rattle.ledger_steps.specs.Levels.{present, range_at}
 use Rattle.ledger_steps.specs.declared.range.NumberRange.{NumberRange}
 use Rattle.hall_model.specs.Numbers.{drawn, next_number, raised_to, stocked}
-use Rattle.hall_model.specs.Kept.{draws_in, AreOrders, HasFew, HasGoodLocks, HasItsUser, HasLanding, HasOpenUnits, HasSoundLocks, IsAhead, IsKnown, IsKnownRight, IsOwned, IsSteady, IsWaiting, IsYoung, MayHold, OfLock, OfStored, OutsideDoubt, may_hold}
-use Rattle.hall_model.specs.OpenUnits.{OfPending}
+use Rattle.hall_model.specs.Kept.{draws_in, AreOrders, HasFew, HasGoodLocks, HasItsUser, HasStateInFlight, HasOpenUnits, HasSoundLocks, IsAhead, IsKnown, IsKnownRight, IsOwned, IsSteady, IsWaiting, IsYoung, MayHold, OfLock, OfStored, OutsideDoubt, may_hold}
+use Rattle.hall_model.specs.OpenUnits.{OfInFlight}
 use Rattle.hall_model.specs.Orders.{first_unclaimed, is_claimed, order_for, order_of, without_order}
 use Rattle.hall_model.specs.Sessions.{begun, with_marks, without_marks, is_called, owners_of, pair_of, session_at, unit_key, with_draw, with_fresh_unit, with_next_unit, with_session, without_draws, without_session}
 use Rattle.hall_model.specs.Calls.{Call, Commits, OfAdmin, OfSession, Restarts, call_of}
@@ -55,7 +55,7 @@ use Rattle.hall_model.specs.Step.{Found, Verdict, call_verdict, cancelled, commi
 use Rattle.hall_laws.proofs.keeping.SessionsAlike.{AreAlike, HaveOneStatus, ahead_alike, alike_all, alike_self, alike_with, count_alike, marked_few, marked_steady, numbered_alike, orders_alike, owned_alike, with_other_marks, with_others, young_alike}
 use Rattle.model_laws.proofs.HandedLocks.{handed_good}
 use Rattle.lock_entry.proofs.lemmas.Naming.{same_owner-same}
-use Rattle.model_laws.proofs.ByCall.{CanDraw, IsHandedOver, OfEach, by_anew, by_doubt, by_filing, by_made, by_restart, by_stock, pending_stays}
+use Rattle.model_laws.proofs.ByCall.{CanDraw, IsHandedOver, OfEach, by_anew, by_doubt, by_filing, by_made, by_restart, by_stock, in_flight_stays}
 use Rattle.model_laws.proofs.Cancels.{CanBeCancelled, unclaimed}
 use Rattle.hall_laws.proofs.keeping.WorkerOrders.{found_all, orders_marked, orders_posted, orders_recorded, orders_with, orders_without, outside_more}
 use Rattle.model_laws.proofs.PartOrders.{held_for}
@@ -68,9 +68,11 @@ use Rattle.model_laws.proofs.OtherStatuses.{all_waiting, apart_from_waiting, num
 use Rattle.model_laws.proofs.LockLists.{allowed, Allows, asked_allows, converted_allows}
 use Rattle.hall_laws.proofs.keeping.Owners.{owned_back, owned_beside, owned_by_none, owned_entered, owned_freed, owned_left, owned_locks, owned_next, owned_recorded}
 use Rattle.model_laws.proofs.Resubmissions.{readmitted_is, table_in}
-use Rattle.hall_laws.proofs.keeping.Restarts.{restart_lands, restarted_few, restarted_steady}
+use Rattle.hall_laws.proofs.keeping.Restarts.{restart_in_flight, restarted_few, restarted_steady}
 use Rattle.hall_laws.proofs.histories.LockUsers.{every_conversion, every_freed, every_freed_owner, every_granted, known_dialogue, known_update, one_number, only_dialogue, only_update}
 use Rattle.model_laws.proofs.EachLock.{every_handed}
+use Rattle.ledger_steps.specs.declared.part.Part.{Part}
+use Rattle.ledger_steps.specs.Parts.{is_first}
 
 young_more : (n m : ℕ) (xs : List Session) → n ≤ m → AllByRecursion (IsYoung n) xs → AllByRecursion (IsYoung m) xs
 young_more n m [] h k = tt
@@ -108,21 +110,27 @@ holds_more : (n : ℕ) (s : State) → Holds n s → Holds (n + 1) s
 holds_more n s h = record { few = few_more n s h.few; steady = h.steady }
 
 -- where nothing was read, nothing wrong is known
-unread_known : (found : Option Bool) (stored : Ledger) (pending : Option Ledger) → found ≡ None → IsKnownRight found stored pending
-unread_known found stored pending unread = subst (λ o. IsKnownRight o stored pending) (sym unread) tt
+unread_known : (found : Option Bool) (stored : Ledger) (in_flight : Option Ledger) → found ≡ None → IsKnownRight found stored in_flight
+unread_known found stored in_flight unread = subst (λ o. IsKnownRight o stored in_flight) (sym unread) tt
 
 -- outside doubt nothing is in flight
 pub record IsQuiet (s : State) : Type 0 where
-  pub pending : s.pending ≡ None
+  pub in_flight : s.in_flight ≡ None
   pub found : s.found ≡ None
 
 -- the server is in doubt, or nothing is in flight
 by_condition_is : (P : Type 0) (s : State) (k : Condition) → s.condition ≡ k → IsSteady s → (IsQuiet s → P) → ((n : ℕ) → s.condition ≡ condition.Doubt n → P)
     → P
 by_condition_is P s condition.Up is h quiet down =
-    quiet (record { pending = subst (λ c. OutsideDoubt c (s.pending ≡ None)) is h.settled; found = subst (λ c. OutsideDoubt c (s.found ≡ None)) is h.unknown })
+    quiet (record {
+      in_flight = subst (λ c. OutsideDoubt c (s.in_flight ≡ None)) is h.settled;
+      found = subst (λ c. OutsideDoubt c (s.found ≡ None)) is h.unknown;
+    })
 by_condition_is P s condition.NoServer is h quiet down =
-    quiet (record { pending = subst (λ c. OutsideDoubt c (s.pending ≡ None)) is h.settled; found = subst (λ c. OutsideDoubt c (s.found ≡ None)) is h.unknown })
+    quiet (record {
+      in_flight = subst (λ c. OutsideDoubt c (s.in_flight ≡ None)) is h.settled;
+      found = subst (λ c. OutsideDoubt c (s.found ≡ None)) is h.unknown;
+    })
 by_condition_is P s (condition.Doubt n) is h quiet down = down n is
 
 pub by_condition : (P : Type 0) (s : State) → IsSteady s → (IsQuiet s → P) → ((n : ℕ) → s.condition ≡ condition.Doubt n → P) → P
@@ -214,7 +222,7 @@ renewed_draws name (x ∷ xs) =
 -- unit has the same status
 alike-holds : (n : ℕ) (s : State) (sessions : List Session) (ranges : List NumberRange) (levels : Levels) (marks : List Mark) → AreAlike s.sessions sessions
     → HaveOneStatus s.stored marks → AreDrawnRight ranges levels (draws_in sessions) (numbers_of s.stored.units marks)
-    → IsKnownRight s.found (with_others s.stored levels marks) s.pending → Holds n s
+    → IsKnownRight s.found (with_others s.stored levels marks) s.in_flight → Holds n s
     → Holds n (record s { sessions = sessions; ranges = ranges; stored = with_others s.stored levels marks })
 alike-holds n s sessions ranges levels marks alike same drawn known h =
     let steady = h.steady in
@@ -324,7 +332,7 @@ commit-holds n s x parts stock at fits unread sound h =
         settled = steady.settled;
         unknown = steady.unknown;
         unfailed = steady.unfailed;
-        known = unread_known s.found _ s.pending unread;
+        known = unread_known s.found _ s.in_flight unread;
         fresh = record { numbered = fresh.numbered; ahead = fresh.ahead; later = fresh.later };
         places = steady.places;
         orders = outside_more s.condition
@@ -421,7 +429,7 @@ not_no false h = cc
 not_past : (m n : ℕ) → nat_lt m n ≡ false → n ≤ m
 not_past m n h = grind (arith, nat_tests)
 
-taken-holds : (n part : ℕ) (s : State) (worker : ℕ) (unit : UnitKey) → first_unclaimed s.orders (waiting_for part s.stored) ≡ Some unit → Holds n s
+taken-holds : (n : ℕ) (part : Part) (s : State) (worker : ℕ) (unit : UnitKey) → first_unclaimed s.orders (waiting_for part s.stored) ≡ Some unit → Holds n s
     → Holds (n + 1) (taken s worker unit)
 taken-holds n part s worker unit e h =
     let steady = h.steady in
@@ -464,17 +472,17 @@ dropped-holds n s worker h =
     }) h
 
 -- with the V1 part of a unit its locks go; one that waits for its V2 part has none
-behind_marked : (s : State) (part : ℕ) (unit : UnitKey) (kind : MarkKind) → status_in s.stored unit ≡ Some (status_for part) → AreOwned s s.locks
+behind_marked : (s : State) (part : Part) (unit : UnitKey) (kind : MarkKind) → status_in s.stored unit ≡ Some (status_for part) → AreOwned s s.locks
     → IsOwned (is_honest s) (with_mark s.stored unit kind) s.next_session s.sessions (locks_behind part s.locks unit)
 behind_marked s part unit kind waits own =
-    elim (nat_eq part 1)
+    elim (is_first part)
     as (λ b. status_in s.stored unit ≡ Some (if b then Open else Posted)
     → IsOwned (is_honest s) (with_mark s.stored unit kind) s.next_session s.sessions (if b then freed_owner s.locks (Upd unit) else s.locks)) [
       | true ↦ λ w. owned_freed (is_honest s) s.stored s.next_session s.sessions s.locks unit kind own
       | false ↦ λ w. owned_beside (is_honest s) s.stored s.next_session s.sessions s.locks unit kind Posted w refl own
     ] waits
 
-marked-holds : (n part : ℕ) (s : State) (worker : ℕ) (unit : UnitKey) (kind : MarkKind) → CommitsNone kind
+marked-holds : (n : ℕ) (part : Part) (s : State) (worker : ℕ) (unit : UnitKey) (kind : MarkKind) → CommitsNone kind
     → order_for part s.stored s.orders worker ≡ Some unit → s.found ≡ None → Holds n s → Holds (n + 1) (marked part s worker unit kind)
 marked-holds n part s worker unit kind none e unread h =
     let held = held_for part s.stored (order_of s.orders worker) unit e in
@@ -493,7 +501,7 @@ marked-holds n part s worker unit kind none e unread h =
         settled = steady.settled;
         unknown = steady.unknown;
         unfailed = steady.unfailed;
-        known = unread_known s.found _ s.pending unread;
+        known = unread_known s.found _ s.in_flight unread;
         fresh = record { numbered = fresh.numbered; ahead = fresh.ahead; later = fresh.later };
         places = length-set s.orders worker None ∙ steady.places;
         orders = outside_more s.condition (λ k. orders_posted s.stored s.orders worker unit kind k held.0) steady.orders;
@@ -530,7 +538,7 @@ cancelled-holds n s unit status can unread h =
         settled = steady.settled;
         unknown = steady.unknown;
         unfailed = steady.unfailed;
-        known = unread_known s.found _ s.pending unread;
+        known = unread_known s.found _ s.in_flight unread;
         fresh = record { numbered = fresh.numbered; ahead = fresh.ahead; later = fresh.later };
         places = steady.places;
         orders = outside_more s.condition (λ k. orders_marked s.stored unit Gone s.orders (unclaimed s.orders unit can.free) k) steady.orders;
@@ -568,7 +576,7 @@ reopened-holds n s unit es here own unread h =
         settled = steady.settled;
         unknown = steady.unknown;
         unfailed = steady.unfailed;
-        known = unread_known s.found _ s.pending unread;
+        known = unread_known s.found _ s.in_flight unread;
         fresh = record { numbered = fresh.numbered; ahead = fresh.ahead; later = fresh.later };
         places = steady.places;
         orders = outside_more s.condition
@@ -594,7 +602,7 @@ reposted-holds n s unit here unread h =
         settled = steady.settled;
         unknown = steady.unknown;
         unfailed = steady.unfailed;
-        known = unread_known s.found _ s.pending unread;
+        known = unread_known s.found _ s.in_flight unread;
         fresh = record { numbered = fresh.numbered; ahead = fresh.ahead; later = fresh.later };
         places = steady.places;
         orders = outside_more s.condition
@@ -619,7 +627,7 @@ beside-holds : (n : ℕ) (s : State) (sessions : List Session) (ranges : List Nu
     → Holds (n + 1) (record s { sessions = sessions; ranges = ranges; stored = with_others s.stored levels marks })
 beside-holds n s sessions ranges levels marks alike same drawn unread h =
     holds_more n (record s { sessions = sessions; ranges = ranges; stored = with_others s.stored levels marks })
-    (alike-holds n s sessions ranges levels marks alike same drawn (unread_known s.found (with_others s.stored levels marks) s.pending unread) h)
+    (alike-holds n s sessions ranges levels marks alike same drawn (unread_known s.found (with_others s.stored levels marks) s.in_flight unread) h)
 
 -- the same with a level that is raised
 raised-holds : (n : ℕ) (s : State) (sessions : List Session) (ranges : List NumberRange) (i : Interval) (upto : ℕ) → AreAlike s.sessions sessions
@@ -694,7 +702,7 @@ killed-holds n s up h =
         named = steady.named;
         drawn = steady.drawn;
         marked = steady.marked;
-        settled = subst (λ c. OutsideDoubt c (s.pending ≡ None)) up steady.settled;
+        settled = subst (λ c. OutsideDoubt c (s.in_flight ≡ None)) up steady.settled;
         unknown = subst (λ c. OutsideDoubt c (s.found ≡ None)) up steady.unknown;
         unfailed = subst (λ c. OutsideDoubt c (s.failed_caller ≡ None)) up steady.unfailed;
         known = steady.known;
@@ -732,7 +740,7 @@ over-holds n found s can told h =
         named = steady.named;
         drawn = steady.drawn;
         marked = steady.marked;
-        settled = subst (λ c. OutsideDoubt c (s.pending ≡ None)) can.none steady.settled;
+        settled = subst (λ c. OutsideDoubt c (s.in_flight ≡ None)) can.none steady.settled;
         unknown = subst (λ c. OutsideDoubt c (s.found ≡ None)) can.none steady.unknown;
         unfailed = subst (λ c. OutsideDoubt c (s.failed_caller ≡ None)) can.none steady.unfailed;
         known = steady.known;
@@ -775,8 +783,8 @@ detached-holds n s h =
     }
 
 -- a replica follows, or none
-following-holds : (n : ℕ) (s : State) (follows : Bool) → Holds n s → Holds n (record s { attached = follows })
-following-holds n s follows h =
+attached-holds : (n : ℕ) (s : State) (follows : Bool) → Holds n s → Holds n (record s { attached = follows })
+attached-holds n s follows h =
     let few = h.few in
     let steady = h.steady in
     record {
@@ -799,15 +807,16 @@ following-holds n s follows h =
       };
     }
 
-restarted-holds : (n : ℕ) (taken : Bool) (s : State) → HasLanding s (stored_anew taken s.stored s.pending) → Holds n s → Holds (n + 1) (restarted taken s)
-restarted-holds n taken s landing h = record { few = restarted_few n taken s h.few; steady = restarted_steady taken s h.steady landing }
+restarted-holds : (n : ℕ) (taken : Bool) (s : State) → HasStateInFlight s (stored_anew taken s.stored s.in_flight) → Holds n s
+    → Holds (n + 1) (restarted taken s)
+restarted-holds n taken s state_in_flight h = record { few = restarted_few n taken s h.few; steady = restarted_steady taken s h.steady state_in_flight }
 
 -- ---- all calls
 
-pub each-holds : (n : ℕ) (found : Found) (s : State) → HasSoundLocks s → HasLanding s (stored_anew (is_taken found.anew) s.stored s.pending)
+pub each-holds : (n : ℕ) (found : Found) (s : State) → HasSoundLocks s → HasStateInFlight s (stored_anew (is_taken found.anew) s.stored s.in_flight)
     → IsTold s.link_told (found.list ≡ s.locks) → s.found ≡ None → Holds n s
     → OfEach (λ call v. MayCall s call → Holds (n + 1) (judged s v).state) found s
-each-holds n found s sound landing told unread h = record {
+each-holds n found s sound state_in_flight told unread h = record {
   refuses = λ call r plain may. holds_more n s h;
   enters = λ name user free may. entered-holds n s name user free h;
   logs_off = λ name x at may. left-holds n s x.name _ (both-owned s x h.steady) h;
@@ -835,27 +844,28 @@ each-holds n found s sound landing told unread h = record {
   kills = λ up may. killed-holds n s up h;
   fails_over = λ can may. over-holds n found s can told h;
   strays = λ first second none may. detached-holds (n + 1) s (holds_more n s h);
-  attaches = λ up may. following-holds (n + 1) s true (holds_more n s h);
-  restarts = λ off may. restarted-holds n (is_taken found.anew) s landing h;
+  attaches = λ up may. attached-holds (n + 1) s true (holds_more n s h);
+  restarts = λ off may. restarted-holds n (is_taken found.anew) s state_in_flight h;
   cancels = λ unit status can may. cancelled-holds n s unit status can unread h;
   reopens = λ unit es here stand may. reopened-holds n s unit es here (back-owned s unit es sound.stored stand h.steady.owned) unread h;
   reposts = λ unit here may. reposted-holds n s unit here unread h;
 }
 
 verdict-holds : (n : ℕ) (found : Found) (s : State) (call : Call) → MayCall s call → HasSoundLocks s
-    → HasLanding s (stored_anew (is_taken found.anew) s.stored s.pending) → IsTold s.link_told (found.list ≡ s.locks) → Holds n s
+    → HasStateInFlight s (stored_anew (is_taken found.anew) s.stored s.in_flight) → IsTold s.link_told (found.list ≡ s.locks) → Holds n s
     → Holds (n + 1) (judged s (call_verdict found s call)).state
-verdict-holds n found s call may sound landing told h =
+verdict-holds n found s call may sound state_in_flight told h =
     by_condition (Holds (n + 1) (judged s (call_verdict found s call)).state) s h.steady
-    (λ quiet. by_made (λ c v. Holds (n + 1) (judged s v).state) found s (each-holds n found s sound landing told quiet.found h) call may)
+    (λ quiet. by_made (λ c v. Holds (n + 1) (judged s v).state) found s (each-holds n found s sound state_in_flight told quiet.found h) call may)
     (λ k down.
-    by_doubt (λ c v. Holds (n + 1) (judged s v).state) found s k call down (λ c r. holds_more n s h) (restarted-holds n (is_taken found.anew) s landing h))
+    by_doubt (λ c v. Holds (n + 1) (judged s v).state) found s k call down (λ c r. holds_more n s h)
+    (restarted-holds n (is_taken found.anew) s state_in_flight h))
 
 -- ---- a server in doubt
 
-doubted-holds : (n : ℕ) (s : State) (call : Call) (read : Option Bool) (pending : Option Ledger) → IsKnownRight (known_behind s.found read) s.stored pending
-    → Holds n s → Holds (n + 1) (doubted s call read pending)
-doubted-holds n s call read pending known h =
+doubted-holds : (n : ℕ) (s : State) (call : Call) (read : Option Bool) (in_flight : Option Ledger) → IsKnownRight (known_behind s.found read) s.stored in_flight
+    → Holds n s → Holds (n + 1) (doubted s call read in_flight)
+doubted-holds n s call read in_flight known h =
     let few = few_more n (with_other_marks (had_lock s) s) (marked_few n (had_lock s) s h.few) in
     let steady = marked_steady (had_lock s) s h.steady in
     record {
@@ -904,20 +914,20 @@ stocked-holds n s stock fits h =
     }
 
 -- the store fails
-failing-holds : (n : ℕ) (s : State) (call : Call) (pending : Option Ledger) → MayCall s call → IsKnownRight s.found s.stored pending → Holds n s
-    → Holds (n + 1) (doubted (without_stock call s) call None pending)
-failing-holds n s call pending may known h =
-    by_stock (λ c t. MayCall s c → Holds (n + 1) (doubted t c None pending)) s
-    (λ name parts stock fits. doubted-holds n (stocked stock s) (OfSession name (Commits parts stock)) None pending known (stocked-holds n s stock fits h))
-    (λ c free. doubted-holds n s c None pending known h) call may
+failing-holds : (n : ℕ) (s : State) (call : Call) (in_flight : Option Ledger) → MayCall s call → IsKnownRight s.found s.stored in_flight → Holds n s
+    → Holds (n + 1) (doubted (without_stock call s) call None in_flight)
+failing-holds n s call in_flight may known h =
+    by_stock (λ c t. MayCall s c → Holds (n + 1) (doubted t c None in_flight)) s
+    (λ name parts stock fits. doubted-holds n (stocked stock s) (OfSession name (Commits parts stock)) None in_flight known (stocked-holds n s stock fits h))
+    (λ c free. doubted-holds n s c None in_flight known h) call may
 
 failing_known : (reading : Reading) (found : Found) (s : State) (call : Call) → IsSteady s
-    → IsKnownRight s.found s.stored (pending_after reading s call (call_verdict found s call))
+    → IsKnownRight s.found s.stored (in_flight_after reading s call (call_verdict found s call))
 failing_known reading found s call steady =
-    let pending = pending_after reading s call (call_verdict found s call) in
-    by_condition (IsKnownRight s.found s.stored pending) s steady
-    (λ quiet. unread_known s.found s.stored pending quiet.found)
-    (λ k down. subst (IsKnownRight s.found s.stored) (sym (pending_stays reading found s k call down)) steady.known)
+    let in_flight = in_flight_after reading s call (call_verdict found s call) in
+    by_condition (IsKnownRight s.found s.stored in_flight) s steady
+    (λ quiet. unread_known s.found s.stored in_flight quiet.found)
+    (λ k down. subst (IsKnownRight s.found s.stored) (sym (in_flight_stays reading found s k call down)) steady.known)
 
 -- what a state in doubt needs of what is stored, where its sessions are as they were
 abbrev StoredHolds : ℕ → State → Call → Option Bool → Ledger → Type 0
@@ -957,7 +967,7 @@ filed-holds n s t call read unread sessions next ranges before h marks places =
         settled = tt;
         unknown = tt;
         unfailed = tt;
-        known = unread_known (known_behind s.found read) t.stored s.pending unread;
+        known = unread_known (known_behind s.found read) t.stored s.in_flight unread;
         fresh = record {
           numbered = earlier.fresh.numbered;
           ahead = subst (λ xs. AllByRecursion (IsAhead t.stored) (marked_in xs)) sessions steady.fresh.ahead;
@@ -977,7 +987,7 @@ unfiled-holds : (n : ℕ) (found : Found) (s : State) (call : Call) (read : Opti
 unfiled-holds n found s call read before none h =
     let unread : known_behind s.found read ≡ None = ap (known_behind s.found) none ∙ before in
     by_filing (StoredHolds (n + 1) s call read) found s call
-    (doubted-holds n s call read s.pending (unread_known (known_behind s.found read) s.stored s.pending unread) h)
+    (doubted-holds n s call read s.in_flight (unread_known (known_behind s.found read) s.stored s.in_flight unread) h)
     (λ worker part unit e.
     let kind = kind_for part (found.part part unit) in
     filed-holds n s (marked part s worker unit kind) call read unread refl refl refl h
@@ -985,8 +995,8 @@ unfiled-holds n found s call read before none h =
     (λ unit status can. filed-holds n s (cancelled s unit status) call read unread refl refl refl h (cancelled-holds n s unit status can before h) refl refl)
 
 -- what is known of the change in flight behind a call
-read_known : (reading : Reading) (s : State) (call : Call) → MayRead reading s call → IsKnownRight s.found s.stored s.pending
-    → IsKnownRight (known_behind s.found (read_anew reading)) s.stored s.pending
+read_known : (reading : Reading) (s : State) (call : Call) → MayRead reading s call → IsKnownRight s.found s.stored s.in_flight
+    → IsKnownRight (known_behind s.found (read_anew reading)) s.stored s.in_flight
 read_known AsKnown s call may h = h
 read_known (Comes outcome) s call may h = h
 read_known (Shows text) s call may h = h
@@ -1000,7 +1010,7 @@ failed_filing-holds n reading s call may h =
     let read = read_anew reading in
     let P : Call → Verdict → Type 0 = λ c v. MayRead reading s c → Holds (n + 1) (unfiled s c read (stored_before_file s c v)) in
     let left : (c : Call) → MayRead reading s c → Holds (n + 1) (unfiled s c read s.stored) =
-    λ c m. doubted-holds n s c read s.pending (read_known reading s c m h.steady.known) h in
+    λ c m. doubted-holds n s c read s.in_flight (read_known reading s c m h.steady.known) h in
     by_condition (Holds (n + 1) (unfiled s call read (stored_before_file s call (call_verdict found s call)))) s h.steady
     (λ quiet.
     by_restart (λ c. P c (call_verdict found s c)) (by_anew (P (OfAdmin Restarts)) found s (λ r. left (OfAdmin Restarts)) (left (OfAdmin Restarts)))
@@ -1010,25 +1020,26 @@ failed_filing-holds n reading s call may h =
 -- ---- any event
 
 ended-holds : (n : ℕ) (e : Event) (reading : Reading) (s : State) (call : Call) → MayCall s call → MayRead reading s call → HasSoundLocks s → HasOpenUnits s
-    → OfPending s.pending (HasLanding s) → Holds n s
+    → OfInFlight s.in_flight (HasStateInFlight s) → Holds n s
     → Holds (n + 1) (ends_in e reading s call (call_verdict (found_by reading s) s call)).state
-ended-holds n AllWell reading s call may read sound units landing h =
+ended-holds n AllWell reading s call may read sound units state_in_flight h =
     let found = found_by reading s in
-    verdict-holds n found s call may sound (restart_lands (is_taken found.anew) s sound.stored h.steady units landing) (list_told reading s call read) h
-ended-holds n Wanting reading s call may read sound units landing h = holds_more n s h
-ended-holds n StoreFails reading s call may read sound units landing h =
+    verdict-holds n found s call may sound (restart_in_flight (is_taken found.anew) s sound.stored h.steady units state_in_flight)
+    (list_told reading s call read) h
+ended-holds n Wanting reading s call may read sound units state_in_flight h = holds_more n s h
+ended-holds n StoreFails reading s call may read sound units state_in_flight h =
     failing-holds n s call _ may (failing_known reading (found_by reading s) s call h.steady) h
-ended-holds n BackupFails reading s call may read sound units landing h = failed_filing-holds n reading s call read h
-ended-holds n LinkFails reading s call may read sound units landing h = detached-holds (n + 1) s (holds_more n s h)
-ended-holds n (NotRemade fault) reading s call may read sound units landing h =
-    doubted-holds n s call (read_anew reading) s.pending (read_known reading s call read h.steady.known) h
+ended-holds n BackupFails reading s call may read sound units state_in_flight h = failed_filing-holds n reading s call read h
+ended-holds n LinkFails reading s call may read sound units state_in_flight h = detached-holds (n + 1) s (holds_more n s h)
+ended-holds n (NotRemade fault) reading s call may read sound units state_in_flight h =
+    doubted-holds n s call (read_anew reading) s.in_flight (read_known reading s call read h.steady.known) h
 
 pub served-holds : (n : ℕ) (o : DeviceOutcome) (s : State) (c : Command) → IsAllowed o s c → HasSoundLocks s → HasOpenUnits s
-    → OfPending s.pending (HasLanding s) → Holds n s → Holds (n + 1) (served o s c).state
-served-holds n o s c allowed sound units landing h =
+    → OfInFlight s.in_flight (HasStateInFlight s) → Holds n s → Holds (n + 1) (served o s c).state
+served-holds n o s c allowed sound units state_in_flight h =
     let t = (ends_in o.event o.reading s (call_of c) (call_verdict (found_by o.reading s) s (call_of c))).state in
-    following-holds (n + 1) t (not o.lost && t.attached)
-    (ended-holds n o.event o.reading s (call_of c) allowed.call allowed.possible.reading sound units landing h)
+    attached-holds (n + 1) t (not o.lost && t.attached)
+    (ended-holds n o.event o.reading s (call_of c) allowed.call allowed.possible.reading sound units state_in_flight h)
 
 -- ---- the history
 

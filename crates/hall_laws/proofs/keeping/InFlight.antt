@@ -20,10 +20,10 @@ use Rattle.hall_model.specs.declared.command.Session.{Session}
 use Rattle.hall_model.specs.Acts.{IsAct}
 use Rattle.hall_model.specs.Calls.{Call, LogsOn, OfSession, OfWorker, OfAdmin, Kills, FailsOver, Restarts, Attaches, Cancels, Resubmits, Takes, Posts, Drops, call_of, only_reads, restarts, LogsOff, Asks, Frees, FreesAll, Converts, Draws, Reserves, Reads, Commits, RollsBack}
 use Rattle.hall_model.specs.Devices.{DeviceOutcome, Event, AllWell, Wanting, StoreFails, BackupFails, LinkFails, NotRemade, IsAllowed, IsTold, MayHappen, MayRead, Reading, found_by}
-use Rattle.hall_model.specs.History.{caller_behind, doubted, ends_in, had_lock, is_unread, judged, pending_after, read_anew, served, step, stored_before_file, takes_flight, unfiled, with_entry, without_stock}
-use Rattle.hall_model.specs.Kept.{AreSameButCaller, CanStand, HasFew, HasGoodLocks, HasLanding, HasOpenUnits, HasSoundLocks, IsKept, IsMovedOn, MayHaveMoved}
+use Rattle.hall_model.specs.History.{caller_behind, doubted, ends_in, had_lock, in_flight_after, is_unread, judged, read_anew, served, step, stored_before_file, takes_flight, unfiled, with_entry, without_stock}
+use Rattle.hall_model.specs.Kept.{AreSameButCaller, CanStand, HasFew, HasGoodLocks, HasOpenUnits, HasSoundLocks, HasStateInFlight, IsKept, IsMovedOn, MayHaveMoved}
 use Rattle.hall_model.specs.Numbers.{drawn, next_number, raised_to, stocked}
-use Rattle.hall_model.specs.OpenUnits.{OfPending}
+use Rattle.hall_model.specs.OpenUnits.{OfInFlight}
 use Rattle.hall_model.specs.Sessions.{is_called, session_at, with_marks, with_draw, with_next_unit, with_session, without_draws}
 use Rattle.hall_model.specs.State.{State, is_honest}
 use Rattle.hall_model.specs.Stocks.{MayCall}
@@ -33,10 +33,10 @@ use Rattle.hall_laws.proofs.keeping.SessionsAlike.{marked_steady, same_marked, w
 use Rattle.hall_laws.proofs.keeping.SoundLocks.{over_table, served-sound, verdict-stored}
 use Rattle.hall_laws.proofs.keeping.EachCall.{Holds, below_limit, by_condition, each-holds, raises-holds, served-holds, stocked-holds, with_past}
 use Rattle.model_laws.proofs.NotedCalls.{by_noting}
-use Rattle.hall_laws.proofs.keeping.Unchanged.{list_told, served-past, verdict_pending}
+use Rattle.hall_laws.proofs.keeping.Unchanged.{list_told, served-past, verdict_in_flight}
 use Rattle.model_laws.proofs.FoundSessions.{found_name}
 use Rattle.hall_laws.proofs.open_units.ChangedLocks.{served-open, verdict-together}
-use Rattle.hall_laws.proofs.keeping.Restarts.{may_stay, restart_lands, same_sessions}
+use Rattle.hall_laws.proofs.keeping.Restarts.{may_stay, restart_in_flight, same_sessions}
 
 -- ---- the session that calls
 
@@ -70,9 +70,9 @@ record IsFair (honest : Bool) (changed : Ledger) : Type 0 where
   units : AllByRecursion HasGoodLocks changed.units
 
 -- what was stored before is in order
-same_lands : (n : ℕ) (s : State) (call : Call) (pending : Option Ledger) → Holds n s → IsFair (is_honest s) s.stored
-    → HasLanding (doubted s call None pending) s.stored
-same_lands n s call pending h fair = record {
+same_in_flight : (n : ℕ) (s : State) (call : Call) (in_flight : Option Ledger) → Holds n s → IsFair (is_honest s) s.stored
+    → HasStateInFlight (doubted s call None in_flight) s.stored
+same_in_flight n s call in_flight h fair = record {
   state = with_other_marks (had_lock s) s;
   stored = refl;
   ranges = refl;
@@ -84,10 +84,10 @@ same_lands n s call pending h fair = record {
 }
 
 -- a state that the call would have led to, with the same sessions
-other_lands : (n : ℕ) (s t : State) (call : Call) (pending : Option Ledger) → t.ranges ≡ s.ranges
+other_in_flight : (n : ℕ) (s t : State) (call : Call) (in_flight : Option Ledger) → t.ranges ≡ s.ranges
     → t.next_session ≡ s.next_session → t.sessions ≡ s.sessions → Holds n t → IsFair (is_honest s) t.stored
-    → HasLanding (doubted s call None pending) t.stored
-other_lands n s t call pending ranges next sessions h fair = record {
+    → HasStateInFlight (doubted s call None in_flight) t.stored
+other_in_flight n s t call in_flight ranges next sessions h fair = record {
   state = with_other_marks (had_lock s) t;
   stored = refl;
   ranges = ranges;
@@ -102,10 +102,10 @@ other_lands n s t call pending ranges next sessions h fair = record {
 }
 
 -- one with another session that calls, and with memory behind a stock
-commit_lands : (n : ℕ) (s t : State) (name : List ℕ) (parts : Parts) (stock : List Num) (pending : Option Ledger)
+commit_in_flight : (n : ℕ) (s t : State) (name : List ℕ) (parts : Parts) (stock : List Num) (in_flight : Option Ledger)
     → t.ranges ≡ (stocked stock s).ranges → t.next_session ≡ s.next_session → AreSameButCaller (Some name) s.sessions t.sessions
-    → Holds n t → IsFair (is_honest s) t.stored → HasLanding (doubted (stocked stock s) (OfSession name (Commits parts stock)) None pending) t.stored
-commit_lands n s t name parts stock pending ranges next sessions h fair = record {
+    → Holds n t → IsFair (is_honest s) t.stored → HasStateInFlight (doubted (stocked stock s) (OfSession name (Commits parts stock)) None in_flight) t.stored
+commit_in_flight n s t name parts stock in_flight ranges next sessions h fair = record {
   state = with_other_marks (had_lock s) t;
   stored = refl;
   ranges = ranges;
@@ -117,36 +117,38 @@ commit_lands n s t name parts stock pending ranges next sessions h fair = record
 }
 
 -- a draw leaves the level that reserves the number, which is given to nobody
-drawn_lands : (n : ℕ) (s : State) (x : Session) (object nr : List ℕ) (call : Call) (r : NumberRange) (pending : Option Ledger) → CanDraw s x object nr r
+drawn_in_flight : (n : ℕ) (s : State) (x : Session) (object nr : List ℕ) (call : Call) (r : NumberRange) (in_flight : Option Ledger) → CanDraw s x object nr r
     → s.found ≡ None → Holds n s
     → IsFair (is_honest s) (drawn s x (present s.stored.levels r.interval) (next_number r (present s.stored.levels r.interval) x)).stored
-    → HasLanding (doubted s call None pending) (drawn s x (present s.stored.levels r.interval) (next_number r (present s.stored.levels r.interval) x)).stored
-drawn_lands n s x object nr call r pending can unread h =
+    → HasStateInFlight (doubted s call None in_flight)
+    (drawn s x (present s.stored.levels r.interval) (next_number r (present s.stored.levels r.interval) x)).stored
+drawn_in_flight n s x object nr call r in_flight can unread h =
     let i = present s.stored.levels r.interval in
     let number = next_number r i x in
     let t : State = record s { sessions = with_session x.name (with_draw (num_of i number)) s.sessions } in
     let behind : Bool → Ledger = λ b. (if b then record t { ranges = handed_out i t.ranges; stored = raised_to i number t.stored } else t).stored in
-    elim (is_buffered i) as (λ b. is_buffered r.interval ≡ b → IsFair (is_honest s) (behind b) → HasLanding (doubted s call None pending) (behind b)) [
+    elim (is_buffered i) as (λ b. is_buffered r.interval ≡ b → IsFair (is_honest s) (behind b) → HasStateInFlight (doubted s call None in_flight) (behind b)) [
       | true ↦ λ is fair.
-          other_lands (n + 1) s (record s { stored = raised_to i number s.stored }) call pending refl refl refl
+          other_in_flight (n + 1) s (record s { stored = raised_to i number s.stored }) call in_flight refl refl refl
           (raises-holds n s object nr number r can.range is can.within unread h) fair
-      | false ↦ λ is fair. same_lands n s call pending h fair
+      | false ↦ λ is fair. same_in_flight n s call in_flight h fair
     ] refl
 
 -- ---- each call
 
--- where the store fails in it there is a landing, whatever else is in flight
-abbrev Lands : State → Call → Verdict → Type 0
-Lands s call v =
-    IsTrue (leaves v) → IsFair (is_honest s) (judged s v).state.stored → (pending : Option Ledger)
-    → HasLanding (doubted (without_stock call s) call None pending) (judged s v).state.stored
+-- where the store fails in it there is a state in order with what it leaves, whatever else is in flight
+abbrev LeavesInFlight : State → Call → Verdict → Type 0
+LeavesInFlight s call v =
+    IsTrue (leaves v) → IsFair (is_honest s) (judged s v).state.stored → (in_flight : Option Ledger)
+    → HasStateInFlight (doubted (without_stock call s) call None in_flight) (judged s v).state.stored
 
 no_leaving : {P : Type 0} → IsTrue false → P
 no_leaving is = absurd (false≢true is)
 
 -- a restart leaves what was stored before, or what was in flight
-anew_doubted : (s : State) (pending : Option Ledger) (changed : Ledger) → HasLanding s changed → HasLanding (doubted s (OfAdmin Restarts) None pending) changed
-anew_doubted s pending changed h = record {
+anew_doubted : (s : State) (in_flight : Option Ledger) (changed : Ledger) → HasStateInFlight s changed
+    → HasStateInFlight (doubted s (OfAdmin Restarts) None in_flight) changed
+anew_doubted s in_flight changed h = record {
   state = with_other_marks (had_lock s) h.state;
   stored = h.stored;
   ranges = h.ranges;
@@ -157,80 +159,82 @@ anew_doubted s pending changed h = record {
   together = h.together;
 }
 
-landings : (n : ℕ) (found : Found) (s : State) → HasSoundLocks s → HasLanding s (stored_anew (is_taken found.anew) s.stored s.pending)
+each_in_flight : (n : ℕ) (found : Found) (s : State) → HasSoundLocks s → HasStateInFlight s (stored_anew (is_taken found.anew) s.stored s.in_flight)
     → IsTold s.link_told (found.list ≡ s.locks) → s.found ≡ None → Holds n s
-    → OfEach (λ call v. MayCall s call → Lands s call v) found s
-landings n found s sound anew told unread h =
+    → OfEach (λ call v. MayCall s call → LeavesInFlight s call v) found s
+each_in_flight n found s sound anew told unread h =
     let each = each-holds n found s sound anew told unread h in
     record {
       refuses = λ call r plain may is. no_leaving is;
-      enters = λ name user free may is fair pending. same_lands n s (LogsOn name user) pending h fair;
-      logs_off = λ name x at may is fair pending. same_lands n s (OfSession name LogsOff) pending h fair;
-      grants = λ name x rs locks at e may is fair pending. same_lands n s (OfSession name (Asks rs)) pending h fair;
-      lowers = λ name x rs at may is fair pending. same_lands n s (OfSession name (Frees rs)) pending h fair;
-      frees = λ name x at may is fair pending. same_lands n s (OfSession name FreesAll) pending h fair;
-      converts = λ name x wanted c at e may is fair pending. same_lands n s (OfSession name (Converts wanted)) pending h fair;
-      draws = λ name x object nr r at can may is fair pending. drawn_lands n s x object nr (OfSession name (Draws object nr)) r pending can unread h fair;
-      reserves = λ name x object nr upto r at can may is fair pending.
+      enters = λ name user free may is fair in_flight. same_in_flight n s (LogsOn name user) in_flight h fair;
+      logs_off = λ name x at may is fair in_flight. same_in_flight n s (OfSession name LogsOff) in_flight h fair;
+      grants = λ name x rs locks at e may is fair in_flight. same_in_flight n s (OfSession name (Asks rs)) in_flight h fair;
+      lowers = λ name x rs at may is fair in_flight. same_in_flight n s (OfSession name (Frees rs)) in_flight h fair;
+      frees = λ name x at may is fair in_flight. same_in_flight n s (OfSession name FreesAll) in_flight h fair;
+      converts = λ name x wanted c at e may is fair in_flight. same_in_flight n s (OfSession name (Converts wanted)) in_flight h fair;
+      draws = λ name x object nr r at can may is fair in_flight. drawn_in_flight n s x object nr
+          (OfSession name (Draws object nr)) r in_flight can unread h fair;
+      reserves = λ name x object nr upto r at can may is fair in_flight.
           let i = present s.stored.levels r.interval in
-          other_lands (n + 1) s (record s { stored = raised_to i upto s.stored }) (OfSession name (Reserves object nr upto)) pending
+          other_in_flight (n + 1) s (record s { stored = raised_to i upto s.stored }) (OfSession name (Reserves object nr upto)) in_flight
           refl refl refl (each.reserves name x object nr upto r at can may) fair;
-      reads = λ name x table key at may is fair pending. same_lands n s (OfSession name (Reads table key)) pending h fair;
-      commits_nothing = λ name x parts stock at may is fair pending.
-          commit_lands n s (stocked stock s) name parts stock pending refl refl (same_sessions (Some name) s.sessions)
+      reads = λ name x table key at may is fair in_flight. same_in_flight n s (OfSession name (Reads table key)) in_flight h fair;
+      commits_nothing = λ name x parts stock at may is fair in_flight.
+          commit_in_flight n s (stocked stock s) name parts stock in_flight refl refl (same_sessions (Some name) s.sessions)
           (stocked-holds n s stock may h) fair;
-      commits_numbers = λ name x parts stock at may is fair pending.
-          commit_lands (n + 1) s (stocked stock (numbered s x (x.draws ++ stock))) name parts stock pending refl refl
+      commits_numbers = λ name x parts stock at may is fair in_flight.
+          commit_in_flight (n + 1) s (stocked stock (numbered s x (x.draws ++ stock))) name parts stock in_flight refl refl
           (changed_caller s name x without_draws numbers_move at) (each.commits_numbers name x parts stock at may) fair;
-      commits = λ name x parts stock at may is fair pending.
-          commit_lands (n + 1) s (stocked stock (committed s x parts (x.draws ++ stock))) name parts stock pending refl refl
+      commits = λ name x parts stock at may is fair in_flight.
+          commit_in_flight (n + 1) s (stocked stock (committed s x parts (x.draws ++ stock))) name parts stock in_flight refl refl
           (changed_caller s name x with_next_unit next_moves at) (each.commits name x parts stock at may) fair;
-      rolls_back = λ name x at may is fair pending. same_lands n s (OfSession name RollsBack) pending h fair;
-      takes = λ worker part unit free e may is fair pending. same_lands n s (OfWorker worker (Takes part)) pending h fair;
-      posts = λ worker part unit e may is fair pending.
-          other_lands (n + 1) s (marked part s worker unit (kind_for part (found.part part unit))) (OfWorker worker (Posts part)) pending
+      rolls_back = λ name x at may is fair in_flight. same_in_flight n s (OfSession name RollsBack) in_flight h fair;
+      takes = λ worker part unit free e may is fair in_flight. same_in_flight n s (OfWorker worker (Takes part)) in_flight h fair;
+      posts = λ worker part unit e may is fair in_flight.
+          other_in_flight (n + 1) s (marked part s worker unit (kind_for part (found.part part unit))) (OfWorker worker (Posts part)) in_flight
           refl refl refl (each.posts worker part unit e may) fair;
-      drops = λ worker unit e may is fair pending. same_lands n s (OfWorker worker Drops) pending h fair;
-      kills = λ up may is fair pending. same_lands n s (OfAdmin Kills) pending h fair;
-      fails_over = λ can may is fair pending. same_lands n s (OfAdmin FailsOver) pending h fair;
-      strays = λ first second none may is fair pending. same_lands n s (OfAdmin FailsOver) pending h fair;
-      attaches = λ up may is fair pending. same_lands n s (OfAdmin Attaches) pending h fair;
-      restarts = λ off may is fair pending. anew_doubted s pending (stored_anew (is_taken found.anew) s.stored s.pending) anew;
-      cancels = λ unit status can may is fair pending.
-          other_lands (n + 1) s (cancelled s unit status) (OfAdmin (Cancels unit)) pending refl refl refl (each.cancels unit status can may) fair;
-      reopens = λ unit es here stand may is fair pending.
-          other_lands (n + 1) s (reopened s unit es) (OfAdmin (Resubmits unit)) pending refl refl refl (each.reopens unit es here stand may) fair;
-      reposts = λ unit here may is fair pending.
-          other_lands (n + 1) s (reposted s unit) (OfAdmin (Resubmits unit)) pending refl refl refl (each.reposts unit here may) fair;
+      drops = λ worker unit e may is fair in_flight. same_in_flight n s (OfWorker worker Drops) in_flight h fair;
+      kills = λ up may is fair in_flight. same_in_flight n s (OfAdmin Kills) in_flight h fair;
+      fails_over = λ can may is fair in_flight. same_in_flight n s (OfAdmin FailsOver) in_flight h fair;
+      strays = λ first second none may is fair in_flight. same_in_flight n s (OfAdmin FailsOver) in_flight h fair;
+      attaches = λ up may is fair in_flight. same_in_flight n s (OfAdmin Attaches) in_flight h fair;
+      restarts = λ off may is fair in_flight. anew_doubted s in_flight (stored_anew (is_taken found.anew) s.stored s.in_flight) anew;
+      cancels = λ unit status can may is fair in_flight.
+          other_in_flight (n + 1) s (cancelled s unit status) (OfAdmin (Cancels unit)) in_flight refl refl refl (each.cancels unit status can may) fair;
+      reopens = λ unit es here stand may is fair in_flight.
+          other_in_flight (n + 1) s (reopened s unit es) (OfAdmin (Resubmits unit)) in_flight refl refl refl (each.reopens unit es here stand may) fair;
+      reposts = λ unit here may is fair in_flight.
+          other_in_flight (n + 1) s (reposted s unit) (OfAdmin (Resubmits unit)) in_flight refl refl refl (each.reposts unit here may) fair;
     }
 
 -- nothing is in flight
-nothing_lands : (o : Option Ledger) (Q : Ledger → Type 0) → o ≡ None → OfPending o Q
-nothing_lands o Q none = subst (λ p. OfPending p Q) (sym none) tt
+nothing_in_flight : (o : Option Ledger) (Q : Ledger → Type 0) → o ≡ None → OfInFlight o Q
+nothing_in_flight o Q none = subst (λ p. OfInFlight p Q) (sym none) tt
 
 -- what is so of what the call leaves stored is so of the change in flight, if there was none before
-failing_flies : (Q : Ledger → Type 0) (reading : Reading) (s : State) (call : Call) (v : Verdict) → s.pending ≡ None → IsTrue (leaves v)
-    → Q (judged s v).state.stored → OfPending (pending_after reading s call v) Q
+failing_flies : (Q : Ledger → Type 0) (reading : Reading) (s : State) (call : Call) (v : Verdict) → s.in_flight ≡ None → IsTrue (leaves v)
+    → Q (judged s v).state.stored → OfInFlight (in_flight_after reading s call v) Q
 failing_flies Q reading s call (Refuses r) none is h = no_leaving is
 failing_flies Q reading s call (Leaves after r) none is h =
-    elim (only_reads call || is_unread reading call) as (λ b. OfPending (if b then s.pending else Some after.stored) Q) [
-      | true ↦ nothing_lands s.pending Q none
+    elim (only_reads call || is_unread reading call) as (λ b. OfInFlight (if b then s.in_flight else Some after.stored) Q) [
+      | true ↦ nothing_in_flight s.in_flight Q none
       | false ↦ h
     ]
 
 -- ---- a restart that isn't done
 
-of_pending_more : (o : Option Ledger) (Q R : Ledger → Type 0) → ((ledger : Ledger) → Q ledger → R ledger) → OfPending o Q → OfPending o R
-of_pending_more None Q R more h = tt
-of_pending_more (Some ledger) Q R more h = more ledger h
+of_in_flight_more : (o : Option Ledger) (Q R : Ledger → Type 0) → ((ledger : Ledger) → Q ledger → R ledger) → OfInFlight o Q → OfInFlight o R
+of_in_flight_more None Q R more h = tt
+of_in_flight_more (Some ledger) Q R more h = more ledger h
 
 -- with the change in flight there is a state in order
-abbrev pub LandsIn : State → Type 0
-LandsIn s = OfPending s.pending (HasLanding s)
+abbrev pub HoldsInFlight : State → Type 0
+HoldsInFlight s = OfInFlight s.in_flight (HasStateInFlight s)
 
 -- the change in flight stays
-reland : (s : State) (read : Option Bool) (changed : Ledger) → HasLanding s changed → HasLanding (doubted s (OfAdmin Restarts) read s.pending) changed
-reland s read changed h = record {
+doubted_in_flight : (s : State) (read : Option Bool) (changed : Ledger) → HasStateInFlight s changed
+    → HasStateInFlight (doubted s (OfAdmin Restarts) read s.in_flight) changed
+doubted_in_flight s read changed h = record {
   state = with_other_marks (had_lock s) h.state;
   stored = h.stored;
   ranges = h.ranges;
@@ -241,12 +245,13 @@ reland s read changed h = record {
   together = h.together;
 }
 
-unmade_lands : (s : State) (read : Option Bool) → LandsIn s → LandsIn (doubted s (OfAdmin Restarts) read s.pending)
-unmade_lands s read h = of_pending_more s.pending (HasLanding s) (HasLanding (doubted s (OfAdmin Restarts) read s.pending)) (reland s read) h
+unmade_in_flight : (s : State) (read : Option Bool) → HoldsInFlight s → HoldsInFlight (doubted s (OfAdmin Restarts) read s.in_flight)
+unmade_in_flight s read h = of_in_flight_more s.in_flight (HasStateInFlight s) (HasStateInFlight (doubted s (OfAdmin Restarts) read s.in_flight))
+    (doubted_in_flight s read) h
 
 -- ---- a replica that follows, or none
 
-relink : (s : State) (follows : Bool) (changed : Ledger) → HasLanding s changed → HasLanding (record s { attached = follows }) changed
+relink : (s : State) (follows : Bool) (changed : Ledger) → HasStateInFlight s changed → HasStateInFlight (record s { attached = follows }) changed
 relink s follows changed h = record {
   state = h.state;
   stored = h.stored;
@@ -258,10 +263,10 @@ relink s follows changed h = record {
   together = h.together;
 }
 
-following_lands : (s : State) (follows : Bool) → LandsIn s → LandsIn (record s { attached = follows })
-following_lands s follows h = of_pending_more s.pending (HasLanding s) (HasLanding (record s { attached = follows })) (relink s follows) h
+attached_in_flight : (s : State) (follows : Bool) → HoldsInFlight s → HoldsInFlight (record s { attached = follows })
+attached_in_flight s follows h = of_in_flight_more s.in_flight (HasStateInFlight s) (HasStateInFlight (record s { attached = follows })) (relink s follows) h
 
-unlink : (s : State) (changed : Ledger) → HasLanding s changed → HasLanding (detached s) changed
+unlink : (s : State) (changed : Ledger) → HasStateInFlight s changed → HasStateInFlight (detached s) changed
 unlink s changed h = record {
   state = h.state;
   stored = h.stored;
@@ -273,8 +278,8 @@ unlink s changed h = record {
   together = h.together;
 }
 
-detached_lands : (s : State) → LandsIn s → LandsIn (detached s)
-detached_lands s h = of_pending_more s.pending (HasLanding s) (HasLanding (detached s)) (unlink s) h
+detached_in_flight : (s : State) → HoldsInFlight s → HoldsInFlight (detached s)
+detached_in_flight s h = of_in_flight_more s.in_flight (HasStateInFlight s) (HasStateInFlight (detached s)) (unlink s) h
 
 -- ---- all that is kept, but for the length of the history
 
@@ -282,80 +287,81 @@ pub record HoldsAll (n : ℕ) (s : State) : Type 0 where
   pub holds : Holds n s
   pub sound : HasSoundLocks s
   pub open_units : HasOpenUnits s
-  pub landing : LandsIn s
+  pub state_in_flight : HoldsInFlight s
 
-anew_lands : (n : ℕ) (found : Found) (s : State) → HoldsAll n s → HasLanding s (stored_anew (is_taken found.anew) s.stored s.pending)
-anew_lands n found s h = restart_lands (is_taken found.anew) s h.sound.stored h.holds.steady h.open_units h.landing
+anew_in_flight : (n : ℕ) (found : Found) (s : State) → HoldsAll n s → HasStateInFlight s (stored_anew (is_taken found.anew) s.stored s.in_flight)
+anew_in_flight n found s h = restart_in_flight (is_taken found.anew) s h.sound.stored h.holds.steady h.open_units h.state_in_flight
 
 -- the store fails
-failing_lands : (n : ℕ) (reading : Reading) (found : Found) (s : State) (call : Call) → MayCall s call → IsTold s.link_told (found.list ≡ s.locks)
+failing_in_flight : (n : ℕ) (reading : Reading) (found : Found) (s : State) (call : Call) → MayCall s call → IsTold s.link_told (found.list ≡ s.locks)
     → HoldsAll n s
     → IsTrue (leaves (call_verdict found s call))
-    → LandsIn (doubted (without_stock call s) call None (pending_after reading s call (call_verdict found s call)))
-failing_lands n reading found s call may told h =
+    → HoldsInFlight (doubted (without_stock call s) call None (in_flight_after reading s call (call_verdict found s call)))
+failing_in_flight n reading found s call may told h =
     let steady = h.holds.steady in
     let fair : IsFair (is_honest s) (judged s (call_verdict found s call)).state.stored = record {
-      together = verdict-together found s call steady h.sound h.open_units h.landing;
-      units = verdict-stored found s call steady h.sound h.open_units h.landing;
+      together = verdict-together found s call steady h.sound h.open_units h.state_in_flight;
+      units = verdict-stored found s call steady h.sound h.open_units h.state_in_flight;
     } in
-    let P : Call → Verdict → Type 0 = λ c v. IsTrue (leaves v) → LandsIn (doubted (without_stock c s) c None (pending_after reading s c v)) in
+    let P : Call → Verdict → Type 0 = λ c v. IsTrue (leaves v) → HoldsInFlight (doubted (without_stock c s) c None (in_flight_after reading s c v)) in
     by_condition (P call (call_verdict found s call)) s steady
     (λ quiet is.
     let v = call_verdict found s call in
-    let pending = pending_after reading s call v in
-    failing_flies (HasLanding (doubted (without_stock call s) call None pending)) reading s call v quiet.pending is
-    (by_made (Lands s) found s (landings n found s h.sound (anew_lands n found s h) told quiet.found h.holds) call may is fair pending))
-    (λ k down. by_doubt P found s k call down (λ c r is. no_leaving is) (λ is. unmade_lands s None h.landing))
+    let in_flight = in_flight_after reading s call v in
+    failing_flies (HasStateInFlight (doubted (without_stock call s) call None in_flight)) reading s call v quiet.in_flight is
+    (by_made (LeavesInFlight s) found s (each_in_flight n found s h.sound (anew_in_flight n found s h) told quiet.found h.holds) call may is fair in_flight))
+    (λ k down. by_doubt P found s k call down (λ c r is. no_leaving is) (λ is. unmade_in_flight s None h.state_in_flight))
 
 -- nothing fails
-done_lands : (n : ℕ) (found : Found) (s : State) (call : Call) → HoldsAll n s → LandsIn (judged s (call_verdict found s call)).state
-done_lands n found s call h =
+done_in_flight : (n : ℕ) (found : Found) (s : State) (call : Call) → HoldsAll n s → HoldsInFlight (judged s (call_verdict found s call)).state
+done_in_flight n found s call h =
     let t = (judged s (call_verdict found s call)).state in
-    by_condition (LandsIn t) s h.holds.steady
-    (λ quiet. nothing_lands t.pending (HasLanding t) (verdict_pending (λ o. o ≡ None) found s call quiet.pending refl))
-    (λ k down. by_doubt (λ c v. LandsIn (judged s v).state) found s k call down (λ c r. h.landing) tt)
+    by_condition (HoldsInFlight t) s h.holds.steady
+    (λ quiet. nothing_in_flight t.in_flight (HasStateInFlight t) (verdict_in_flight (λ o. o ≡ None) found s call quiet.in_flight refl))
+    (λ k down. by_doubt (λ c v. HoldsInFlight (judged s v).state) found s k call down (λ c r. h.state_in_flight) tt)
 
 -- the disk of the backup file fails
-unfiled_lands : (n : ℕ) (read : Option Bool) (found : Found) (s : State) (call : Call) → HoldsAll n s → IsTrue (leaves (call_verdict found s call))
-    → LandsIn (unfiled s call read (stored_before_file s call (call_verdict found s call)))
-unfiled_lands n read found s call h =
-    let P : Call → Verdict → Type 0 = λ c v. IsTrue (leaves v) → LandsIn (unfiled s c read (stored_before_file s c v)) in
+unfiled_in_flight : (n : ℕ) (read : Option Bool) (found : Found) (s : State) (call : Call) → HoldsAll n s → IsTrue (leaves (call_verdict found s call))
+    → HoldsInFlight (unfiled s call read (stored_before_file s call (call_verdict found s call)))
+unfiled_in_flight n read found s call h =
+    let P : Call → Verdict → Type 0 = λ c v. IsTrue (leaves v) → HoldsInFlight (unfiled s c read (stored_before_file s c v)) in
     by_condition (P call (call_verdict found s call)) s h.holds.steady
-    (λ quiet is. nothing_lands s.pending _ quiet.pending)
-    (λ k down. by_doubt P found s k call down (λ c r is. no_leaving is) (λ is. unmade_lands s read h.landing))
+    (λ quiet is. nothing_in_flight s.in_flight _ quiet.in_flight)
+    (λ k down. by_doubt P found s k call down (λ c r is. no_leaving is) (λ is. unmade_in_flight s read h.state_in_flight))
 
 -- no lock server could be made anew
-remade_lands : (s : State) (call : Call) (read : Option Bool) → IsTrue (restarts call) → LandsIn s → LandsIn (doubted s call read s.pending)
-remade_lands s call read is h =
-    by_restart (λ c. IsTrue (restarts c) → LandsIn (doubted s c read s.pending)) (λ anew. unmade_lands s read h)
+remade_in_flight : (s : State) (call : Call) (read : Option Bool) → IsTrue (restarts call) → HoldsInFlight s → HoldsInFlight (doubted s call read s.in_flight)
+remade_in_flight s call read is h =
+    by_restart (λ c. IsTrue (restarts c) → HoldsInFlight (doubted s c read s.in_flight)) (λ anew. unmade_in_flight s read h)
     (λ c off anew. absurd (false≢true (sym off ∙ anew))) call is
 
-ended_lands : (n : ℕ) (e : Event) (reading : Reading) (s : State) (call : Call) → MayCall s call → MayRead reading s call
+ended_in_flight : (n : ℕ) (e : Event) (reading : Reading) (s : State) (call : Call) → MayCall s call → MayRead reading s call
     → MayHappen e s call (call_verdict (found_by reading s) s call) → HoldsAll n s
-    → LandsIn (ends_in e reading s call (call_verdict (found_by reading s) s call)).state
-ended_lands n AllWell reading s call may read happens h = done_lands n (found_by reading s) s call h
-ended_lands n Wanting reading s call may read happens h = h.landing
-ended_lands n StoreFails reading s call may read happens h = failing_lands n reading (found_by reading s) s call may (list_told reading s call read) h happens.0
-ended_lands n BackupFails reading s call may read happens h = unfiled_lands n (read_anew reading) (found_by reading s) s call h happens.0
-ended_lands n LinkFails reading s call may read happens h = detached_lands s h.landing
-ended_lands n (NotRemade fault) reading s call may read happens h = remade_lands s call (read_anew reading) happens.1 h.landing
+    → HoldsInFlight (ends_in e reading s call (call_verdict (found_by reading s) s call)).state
+ended_in_flight n AllWell reading s call may read happens h = done_in_flight n (found_by reading s) s call h
+ended_in_flight n Wanting reading s call may read happens h = h.state_in_flight
+ended_in_flight n StoreFails reading s call may read happens h = failing_in_flight n reading (found_by reading s) s call may
+    (list_told reading s call read) h happens.0
+ended_in_flight n BackupFails reading s call may read happens h = unfiled_in_flight n (read_anew reading) (found_by reading s) s call h happens.0
+ended_in_flight n LinkFails reading s call may read happens h = detached_in_flight s h.state_in_flight
+ended_in_flight n (NotRemade fault) reading s call may read happens h = remade_in_flight s call (read_anew reading) happens.1 h.state_in_flight
 
 pub served_all : (n : ℕ) (o : DeviceOutcome) (s : State) (c : Command) → IsAllowed o s c → HoldsAll n s → HoldsAll (n + 1) (served o s c).state
 served_all n o s c allowed h =
     let steady = h.holds.steady in
     let t = (ends_in o.event o.reading s (call_of c) (call_verdict (found_by o.reading s) s (call_of c))).state in
     record {
-      holds = served-holds n o s c allowed h.sound h.open_units h.landing h.holds;
-      sound = served-sound o s c allowed.possible steady h.sound h.open_units h.landing;
-      open_units = served-open o s c allowed steady h.sound h.open_units h.landing;
-      landing = following_lands t (not o.lost && t.attached)
-          (ended_lands n o.event o.reading s (call_of c) allowed.call allowed.possible.reading allowed.possible.event h);
+      holds = served-holds n o s c allowed h.sound h.open_units h.state_in_flight h.holds;
+      sound = served-sound o s c allowed.possible steady h.sound h.open_units h.state_in_flight;
+      open_units = served-open o s c allowed steady h.sound h.open_units h.state_in_flight;
+      state_in_flight = attached_in_flight t (not o.lost && t.attached)
+          (ended_in_flight n o.event o.reading s (call_of c) allowed.call allowed.possible.reading allowed.possible.event h);
     }
 
 -- ---- the history
 
-past_lands : (s : State) (past : List PastEntry) (changed : Ledger) → HasLanding s changed → HasLanding (record s { past = past }) changed
-past_lands s past changed h = record {
+past_in_flight : (s : State) (past : List PastEntry) (changed : Ledger) → HasStateInFlight s changed → HasStateInFlight (record s { past = past }) changed
+past_in_flight s past changed h = record {
   state = h.state;
   stored = h.stored;
   ranges = h.ranges;
@@ -372,8 +378,9 @@ with_past_all n s past h =
     record {
       holds = with_past n s past h.holds;
       sound = over_table h.sound.stored h.sound.table;
-      open_units = record { held = units.held; stored = units.stored; pending = units.pending };
-      landing = of_pending_more s.pending (HasLanding s) (HasLanding (record s { past = past })) (past_lands s past) h.landing;
+      open_units = record { held = units.held; stored = units.stored; in_flight = units.in_flight };
+      state_in_flight = of_in_flight_more s.in_flight (HasStateInFlight s) (HasStateInFlight (record s { past = past }))
+          (past_in_flight s past) h.state_in_flight;
     }
 
 pub step_all : (n : ℕ) (o : DeviceOutcome) (s : State) (line : ℕ) (c : Command) → IsAllowed o s c → HoldsAll n s → HoldsAll (n + 1) (step o s line c).state
@@ -390,7 +397,7 @@ kept_call s line c taken after r may kept room act =
       holds = record { few = kept.few; steady = kept.steady };
       sound = kept.sound;
       open_units = kept.open_units;
-      landing = kept.landing;
+      state_in_flight = kept.state_in_flight;
     } in
     let all : HoldsAll (length s.past + 1) after =
     subst (λ x. HoldsAll (length s.past + 1) x.state) act.same
@@ -405,5 +412,5 @@ kept_call s line c taken after r may kept room act =
       steady = whole.holds.steady;
       sound = whole.sound;
       open_units = whole.open_units;
-      landing = whole.landing;
+      state_in_flight = whole.state_in_flight;
     }

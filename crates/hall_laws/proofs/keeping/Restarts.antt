@@ -11,8 +11,8 @@ use Rattle.ledger_steps.specs.Drawn.{AreDrawnRight}
 use Rattle.ledger_steps.specs.declared.range.NumberRange.{NumberRange}
 use Rattle.update_records.specs.Business.{numbers_of}
 use Rattle.update_records.specs.Ledger.{Ledger}
-use Rattle.hall_model.specs.Kept.{AreNumbered, AreSameButCaller, HasFew, HasGoodLocks, HasItsUser, HasLanding, HasOpenUnits, HaveMarks, HaveOwnNames, IsSteady, MayHaveMoved, draws_in, IsAhead, IsOwned, IsUnheard, IsUserOf, IsYoung, OfLock, OfStored, is_of_session}
-use Rattle.hall_model.specs.OpenUnits.{OfPending, open_entries}
+use Rattle.hall_model.specs.Kept.{AreNumbered, AreSameButCaller, HasFew, HasGoodLocks, HasItsUser, HasStateInFlight, HasOpenUnits, HaveMarks, HaveOwnNames, IsSteady, MayHaveMoved, draws_in, IsAhead, IsOwned, IsUnheard, IsUserOf, IsYoung, OfLock, OfStored, is_of_session}
+use Rattle.hall_model.specs.OpenUnits.{OfInFlight, open_entries}
 use Rattle.hall_model.specs.Sessions.{bereft, bereft_if, is_called, is_caller, loses}
 use Rattle.hall_model.specs.State.{State, is_honest}
 use Rattle.hall_model.specs.Step.{restarted, stored_anew}
@@ -154,8 +154,8 @@ restarted_few n taken s h =
 
 -- ---- a server that is made anew
 
-own_landing : (s : State) → AllByRecursion HasGoodLocks s.stored.units → IsSteady s → HasOpenUnits s → HasLanding s s.stored
-own_landing s good steady units = record {
+own_in_flight : (s : State) → AllByRecursion HasGoodLocks s.stored.units → IsSteady s → HasOpenUnits s → HasStateInFlight s s.stored
+own_in_flight s good steady units = record {
   state = s;
   stored = refl;
   ranges = refl;
@@ -167,65 +167,65 @@ own_landing s good steady units = record {
 }
 
 -- what is so of what was stored, and of what was in flight, is so of what a restart finds in the store
-pub by_flight : (Q : Ledger → Type 0) (taken : Bool) (s : State) → Q s.stored → OfPending s.pending Q → Q (stored_anew taken s.stored s.pending)
+pub by_flight : (Q : Ledger → Type 0) (taken : Bool) (s : State) → Q s.stored → OfInFlight s.in_flight Q → Q (stored_anew taken s.stored s.in_flight)
 by_flight Q false s h flight = h
 by_flight Q true s h flight =
-    elim s.pending as (λ o. OfPending o Q → Q (stored_anew true s.stored o)) [ None ↦ λ k. h | Some changed ↦ λ k. k ] flight
+    elim s.in_flight as (λ o. OfInFlight o Q → Q (stored_anew true s.stored o)) [ None ↦ λ k. h | Some changed ↦ λ k. k ] flight
 
 -- with that there is a state in order
-pub restart_lands : (taken : Bool) (s : State) → AllByRecursion HasGoodLocks s.stored.units → IsSteady s → HasOpenUnits s
-    → OfPending s.pending (HasLanding s) → HasLanding s (stored_anew taken s.stored s.pending)
-restart_lands taken s good steady units h = by_flight (HasLanding s) taken s (own_landing s good steady units) h
+pub restart_in_flight : (taken : Bool) (s : State) → AllByRecursion HasGoodLocks s.stored.units → IsSteady s → HasOpenUnits s
+    → OfInFlight s.in_flight (HasStateInFlight s) → HasStateInFlight s (stored_anew taken s.stored s.in_flight)
+restart_in_flight taken s good steady units h = by_flight (HasStateInFlight s) taken s (own_in_flight s good steady units) h
 
 -- what is so of the ledger of that state
-of_landing : (Q : Ledger → Type 0) (s : State) (changed : Ledger) (l : HasLanding s changed) → Q l.state.stored → Q changed
-of_landing Q s changed l h = subst Q l.stored h
+of_in_flight : (Q : Ledger → Type 0) (s : State) (changed : Ledger) (l : HasStateInFlight s changed) → Q l.state.stored → Q changed
+of_in_flight Q s changed l h = subst Q l.stored h
 
-landed_drawn : (s : State) (changed : Ledger) (l : HasLanding s changed)
+in_flight_drawn : (s : State) (changed : Ledger) (l : HasStateInFlight s changed)
     → AreDrawnRight s.ranges changed.levels (draws_in l.state.sessions) (numbers_of changed.units changed.marks)
-landed_drawn s changed l =
+in_flight_drawn s changed l =
     let draws = draws_in l.state.sessions in
-    of_landing (λ (g : Ledger). AreDrawnRight s.ranges g.levels draws (numbers_of g.units g.marks)) s changed l
+    of_in_flight (λ (g : Ledger). AreDrawnRight s.ranges g.levels draws (numbers_of g.units g.marks)) s changed l
     (subst (λ (rs : List NumberRange). AreDrawnRight rs l.state.stored.levels draws (numbers_of l.state.stored.units l.state.stored.marks))
     l.ranges l.steady.drawn)
 
-landed_owned : (honest : Bool) (s : State) (changed : Ledger) (l : HasLanding s changed)
+in_flight_owned : (honest : Bool) (s : State) (changed : Ledger) (l : HasStateInFlight s changed)
     → IsOwned honest changed s.next_session l.state.sessions (open_entries changed)
-landed_owned honest s changed l =
+in_flight_owned honest s changed l =
     let t = l.state in
     let told = is_honest t in
     open_owned told honest changed s.next_session t.sessions t.locks l.units
-    (of_landing (λ g. IsOwned told g s.next_session t.sessions t.locks) s changed l
+    (of_in_flight (λ g. IsOwned told g s.next_session t.sessions t.locks) s changed l
     (subst (λ n. IsOwned told t.stored n t.sessions t.locks) l.next l.steady.owned))
 
-pub restarted_steady : (taken : Bool) (s : State) → IsSteady s → HasLanding s (stored_anew taken s.stored s.pending) → IsSteady (restarted taken s)
+pub restarted_steady : (taken : Bool) (s : State) → IsSteady s → HasStateInFlight s (stored_anew taken s.stored s.in_flight) → IsSteady (restarted taken s)
 restarted_steady taken s h l =
-    let changed = stored_anew taken s.stored s.pending in
+    let changed = stored_anew taken s.stored s.in_flight in
     let t = l.state in
     let turned = map (bereft_if s.failed_caller) s.sessions in
     let own = behind_caller s.failed_caller s.sessions s.sessions (same_sessions s.failed_caller s.sessions) in
     let behind = behind_caller s.failed_caller s.sessions t.sessions l.sessions in
     record {
-      started = of_landing (λ (g : Ledger). 1 ≤ g.start) s changed l l.steady.started;
+      started = of_in_flight (λ (g : Ledger). 1 ≤ g.start) s changed l l.steady.started;
       limited = h.limited;
       locks_fit = h.locks_fit;
       named = named_behind s.sessions turned own h.named;
       drawn = fewer_drawn s.ranges changed.levels (draws_in t.sessions) (draws_in turned) (numbers_of changed.units changed.marks)
-          (fewer_behind t.sessions turned behind) (landed_drawn s changed l);
-      marked = of_landing HaveMarks s changed l l.steady.marked;
+          (fewer_behind t.sessions turned behind) (in_flight_drawn s changed l);
+      marked = of_in_flight HaveMarks s changed l l.steady.marked;
       settled = refl;
       unknown = refl;
       unfailed = refl;
       known = tt;
       fresh = record {
         numbered = numbered_behind s.next_session s.sessions turned own h.fresh.numbered;
-        ahead = ahead_behind changed t.sessions turned behind (of_landing (λ g. AllByRecursion (IsAhead g) t.sessions) s changed l l.steady.fresh.ahead);
+        ahead = ahead_behind changed t.sessions turned behind (of_in_flight (λ g. AllByRecursion (IsAhead g) t.sessions) s changed l l.steady.fresh.ahead);
         later = λ session luw from.
-            of_landing (λ g. IsUnheard g session luw) s changed l (l.steady.fresh.later session luw (subst (λ n. n ≤ session) (sym l.next) from));
+            of_in_flight (λ g. IsUnheard g session luw) s changed l (l.steady.fresh.later session luw (subst (λ n. n ≤ session) (sym l.next) from));
       };
       places = idle 256;
       orders = no_orders changed 256;
       owned =
           let honest = s.link_told || not false in
-          owned_behind honest changed s.next_session t.sessions turned (open_entries changed) behind (landed_owned honest s changed l);
+          owned_behind honest changed s.next_session t.sessions turned (open_entries changed) behind (in_flight_owned honest s changed l);
     }

@@ -1,6 +1,6 @@
 -- Each call keeps the locks sound.
 use Rattle.std.proofs.Common.{◌≡◌, ℕ, ◌<◌, ◌≤◌, ◌^◌, arith, ◌&&◌, Bool, true, false, List, [], ◌∷◌, ◌++◌, fold, length, refl}
-use Rattle.std.specs.Prelude.{if◌then◌else◌, nat_eq, nat_le, Option, None}
+use Rattle.std.specs.Prelude.{if◌then◌else◌, nat_le, Option, None}
 use Rattle.std.specs.List.{AllByRecursion}
 use Rattle.std.proofs.lemmas.Bool.{and_from, eq-eqb}
 use Rattle.std.proofs.lemmas.Bool.Decides.{nat_tests}
@@ -27,8 +27,8 @@ use Rattle.hall_model.specs.declared.command.Session.{Session}
 use Rattle.hall_model.specs.Devices.{DeviceOutcome, Event, AllWell, Wanting, StoreFails, BackupFails, LinkFails, NotRemade, IsPossible, MayBeDone, MayHappen, Reading, found_by}
 use Rattle.hall_model.specs.Calls.{Call, call_of}
 use Rattle.hall_model.specs.History.{doubted, ends_in, judged, read_anew, served, unfiled, without_stock}
-use Rattle.hall_model.specs.Kept.{HasGoodLocks, HasLanding, HasOpenUnits, HasSoundLocks, IsSteady}
-use Rattle.hall_model.specs.OpenUnits.{OfPending}
+use Rattle.hall_model.specs.Kept.{HasGoodLocks, HasOpenUnits, HasSoundLocks, HasStateInFlight, IsSteady}
+use Rattle.hall_model.specs.OpenUnits.{OfInFlight}
 use Rattle.hall_model.specs.Sessions.{owners_of, pair_of, unit_key, with_draw, with_session}
 use Rattle.hall_model.specs.Numbers.{drawn, raised_to}
 use Rattle.ledger_steps.specs.Drawn.{handed_out, num_of, stored_as}
@@ -43,7 +43,8 @@ use Rattle.model_laws.proofs.ByCall.{OfEach, by_call, by_filing, by_stock}
 use Rattle.model_laws.proofs.HandedLocks.{handed_good}
 use Rattle.model_laws.proofs.EachLock.{may_be_readmitted, every_append}
 use Rattle.model_laws.proofs.Resubmissions.{table_in}
-use Rattle.hall_laws.proofs.keeping.Restarts.{restart_lands}
+use Rattle.hall_laws.proofs.keeping.Restarts.{restart_in_flight}
+use Rattle.ledger_steps.specs.Parts.{is_first}
 
 -- the locks of a state, and those that are stored in it
 pub over_table : {s : State} → AllByRecursion HasGoodLocks s.stored.units → IsTable (table_in s) → HasSoundLocks s
@@ -129,9 +130,9 @@ listed-table false max limit es fits good = none_stands (larger max 0) (larger_f
 
 -- ---- all calls
 
-pub each-sound : (found : Found) (s : State) → IsSteady s → HasOpenUnits s → HasSoundLocks s → OfPending s.pending (HasLanding s)
+pub each-sound : (found : Found) (s : State) → IsSteady s → HasOpenUnits s → HasSoundLocks s → OfInFlight s.in_flight (HasStateInFlight s)
     → OfEach (λ call v. MayBeDone call v → HasSoundLocks (judged s v).state) found s
-each-sound found s steady units good landing = record {
+each-sound found s steady units good state_in_flight = record {
   refuses = λ call r plain done. good;
   enters = λ name user free done. over_table good.stored good.table;
   logs_off = λ name x at done. over_table good.stored (both_freed s x good.table);
@@ -153,13 +154,13 @@ each-sound found s steady units good landing = record {
   };
   rolls_back = λ name x at done. over_table good.stored (IsTable-freed_owner (table_in s) (pair_of s.stored.start x).update good.table);
   takes = λ worker part unit free e done. over_table good.stored good.table;
-  posts = λ worker part unit e done. over_table good.stored (behind-sound s unit (nat_eq part 1) good.table);
+  posts = λ worker part unit e done. over_table good.stored (behind-sound s unit (is_first part) good.table);
   drops = λ worker unit e done. over_table good.stored good.table;
   kills = λ up done. over_table good.stored (listed-table (s.attached && s.link_told) s.max_locks s.limit s.locks steady.locks_fit good.table);
   fails_over = λ can done. over_table good.stored done;
   strays = λ first second none done. detached-sound s steady.locks_fit good;
   attaches = λ up done. over_table good.stored good.table;
-  restarts = λ off done. over_table (restart_lands (is_taken found.anew) s good.stored steady units landing).units done;
+  restarts = λ off done. over_table (restart_in_flight (is_taken found.anew) s good.stored steady units state_in_flight).units done;
   cancels = λ unit status can done. over_table good.stored (without-sound s unit status good.table);
   reopens = λ unit es here stand done.
       over_table good.stored
@@ -168,16 +169,16 @@ each-sound found s steady units good landing = record {
   reposts = λ unit here done. over_table good.stored good.table;
 }
 
-pub verdict-sound : (found : Found) (s : State) (call : Call) → IsSteady s → HasSoundLocks s → HasOpenUnits s → OfPending s.pending (HasLanding s)
+pub verdict-sound : (found : Found) (s : State) (call : Call) → IsSteady s → HasSoundLocks s → HasOpenUnits s → OfInFlight s.in_flight (HasStateInFlight s)
     → MayBeDone call (call_verdict found s call) → HasSoundLocks (judged s (call_verdict found s call)).state
-verdict-sound found s call steady good units landing =
-    by_call (λ call v. MayBeDone call v → HasSoundLocks (judged s v).state) found s (each-sound found s steady units good landing) call
+verdict-sound found s call steady good units state_in_flight =
+    by_call (λ call v. MayBeDone call v → HasSoundLocks (judged s v).state) found s (each-sound found s steady units good state_in_flight) call
 
 -- what calls leave stored with units stands, whatever became of it
-stored-good : (found : Found) (s : State) (steady : IsSteady s) → HasOpenUnits s → HasSoundLocks s → OfPending s.pending (HasLanding s)
+stored-good : (found : Found) (s : State) (steady : IsSteady s) → HasOpenUnits s → HasSoundLocks s → OfInFlight s.in_flight (HasStateInFlight s)
     → OfEach (λ call v. AllByRecursion HasGoodLocks (judged s v).state.stored.units) found s
-stored-good found s steady units good landing =
-    let each = each-sound found s steady units good landing in
+stored-good found s steady units good state_in_flight =
+    let each = each-sound found s steady units good state_in_flight in
     record {
       refuses = λ call r plain. good.stored;
       enters = λ name user free. good.stored;
@@ -200,16 +201,16 @@ stored-good found s steady units good landing =
       fails_over = λ can. good.stored;
       strays = λ first second none. good.stored;
       attaches = λ up. good.stored;
-      restarts = λ off. (restart_lands (is_taken found.anew) s good.stored steady units landing).units;
+      restarts = λ off. (restart_in_flight (is_taken found.anew) s good.stored steady units state_in_flight).units;
       cancels = λ unit status can. good.stored;
       reopens = λ unit es here stand. good.stored;
       reposts = λ unit here. good.stored;
     }
 
-pub verdict-stored : (found : Found) (s : State) (call : Call) → IsSteady s → HasSoundLocks s → HasOpenUnits s → OfPending s.pending (HasLanding s)
+pub verdict-stored : (found : Found) (s : State) (call : Call) → IsSteady s → HasSoundLocks s → HasOpenUnits s → OfInFlight s.in_flight (HasStateInFlight s)
     → AllByRecursion HasGoodLocks (judged s (call_verdict found s call)).state.stored.units
-verdict-stored found s call steady good units landing =
-    by_call (λ call v. AllByRecursion HasGoodLocks (judged s v).state.stored.units) found s (stored-good found s steady units good landing) call
+verdict-stored found s call steady good units state_in_flight =
+    by_call (λ call v. AllByRecursion HasGoodLocks (judged s v).state.stored.units) found s (stored-good found s steady units good state_in_flight) call
 
 abbrev StoredGood : State → Call → Option Bool → Ledger → Type 0
 StoredGood s call read stored = HasSoundLocks (unfiled s call read stored)
@@ -218,31 +219,32 @@ unfiled-sound : (s : State) (call : Call) (read : Option Bool) (stored : Ledger)
     → StoredGood s call read stored
 unfiled-sound s call read stored fits units = over_table units (none_stands (larger s.max_locks 0) (larger_fits s.max_locks 0 fits (omega arith)))
 
-failing-sound : (s : State) (call : Call) (pending : Option Ledger) → s.max_locks < 2 ^ 32 → HasSoundLocks s
-    → HasSoundLocks (doubted (without_stock call s) call None pending)
-failing-sound s call pending fits good =
+failing-sound : (s : State) (call : Call) (in_flight : Option Ledger) → s.max_locks < 2 ^ 32 → HasSoundLocks s
+    → HasSoundLocks (doubted (without_stock call s) call None in_flight)
+failing-sound s call in_flight fits good =
     let none = none_stands (larger s.max_locks 0) (larger_fits s.max_locks 0 fits (omega arith)) in
-    by_stock (λ other t. HasSoundLocks (doubted t other None pending)) s
+    by_stock (λ other t. HasSoundLocks (doubted t other None in_flight)) s
     (λ name parts stock. over_table good.stored none) (λ other. over_table good.stored none) call
 
-ended-sound : (e : Event) (reading : Reading) (s : State) (call : Call) → IsSteady s → HasSoundLocks s → HasOpenUnits s → OfPending s.pending (HasLanding s)
+ended-sound : (e : Event) (reading : Reading) (s : State) (call : Call) → IsSteady s → HasSoundLocks s → HasOpenUnits s
+    → OfInFlight s.in_flight (HasStateInFlight s)
     → MayHappen e s call (call_verdict (found_by reading s) s call) → HasSoundLocks (ends_in e reading s call (call_verdict (found_by reading s) s call)).state
-ended-sound AllWell reading s call steady good units landing may = verdict-sound (found_by reading s) s call steady good units landing may
-ended-sound Wanting reading s call steady good units landing may = good
-ended-sound StoreFails reading s call steady good units landing may = failing-sound s call _ steady.locks_fit good
-ended-sound BackupFails reading s call steady good units landing may =
+ended-sound AllWell reading s call steady good units state_in_flight may = verdict-sound (found_by reading s) s call steady good units state_in_flight may
+ended-sound Wanting reading s call steady good units state_in_flight may = good
+ended-sound StoreFails reading s call steady good units state_in_flight may = failing-sound s call _ steady.locks_fit good
+ended-sound BackupFails reading s call steady good units state_in_flight may =
     let found = found_by reading s in
     let read = read_anew reading in
     let fits = steady.locks_fit in
     by_filing (StoredGood s call read) found s call (unfiled-sound s call read s.stored fits good.stored)
     (λ worker part unit e. unfiled-sound s call read _ fits good.stored) (λ unit status can. unfiled-sound s call read _ fits good.stored)
-ended-sound LinkFails reading s call steady good units landing may = detached-sound s steady.locks_fit good
-ended-sound (NotRemade fault) reading s call steady good units landing may =
+ended-sound LinkFails reading s call steady good units state_in_flight may = detached-sound s steady.locks_fit good
+ended-sound (NotRemade fault) reading s call steady good units state_in_flight may =
     over_table good.stored (none_stands (larger s.max_locks 0) (larger_fits s.max_locks 0 steady.locks_fit (omega arith)))
 
 pub served-sound : (o : DeviceOutcome) (s : State) (c : Command) → IsPossible o s c → IsSteady s → HasSoundLocks s → HasOpenUnits s
-    → OfPending s.pending (HasLanding s)
+    → OfInFlight s.in_flight (HasStateInFlight s)
     → HasSoundLocks (served o s c).state
-served-sound o s c possible steady good units landing =
-    let done = ended-sound o.event o.reading s (call_of c) steady good units landing possible.event in
+served-sound o s c possible steady good units state_in_flight =
+    let done = ended-sound o.event o.reading s (call_of c) steady good units state_in_flight possible.event in
     over_table done.stored done.table

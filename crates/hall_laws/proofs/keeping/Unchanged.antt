@@ -8,7 +8,7 @@ use Rattle.lock_entry.specs.declared.entry.Entry.{Entry}
 use Rattle.hall_model.specs.Acts.{IsTelling}
 use Rattle.hall_model.specs.Calls.{Kills, FailsOver, Restarts, Attaches, Cancels, Resubmits, Call, LogsOn, OfSession, OfWorker, OfAdmin, call_of, is_of_server, restarts}
 use Rattle.hall_model.specs.Devices.{DeviceOutcome, Event, AllWell, Wanting, StoreFails, BackupFails, LinkFails, NotRemade, IsTold, MayFind, MayRead, found_by, Reading, AsKnown, Comes, Shows, Reopens, Hands}
-use Rattle.hall_model.specs.History.{IsStep, Served, doubted, is_unrecorded, judged, noted, past_entry, pending_after, read_anew, served, step, takes_flight, with_entry, without_stock}
+use Rattle.hall_model.specs.History.{IsStep, Served, doubted, in_flight_after, is_unrecorded, judged, noted, past_entry, read_anew, served, step, takes_flight, with_entry, without_stock}
 use Rattle.hall_model.specs.Recall.{HasBegun}
 use Rattle.hall_model.specs.Numbers.{drawn, raised_to}
 use Rattle.ledger_steps.specs.Drawn.{handed_out, num_of}
@@ -78,13 +78,13 @@ verdict_framed found s c = by_call (λ call v. IsFramed s (judged s v).state) fo
 
 -- ---- the change in flight
 
-drawn_pending : (s : State) (x : Session) (i : Interval) (number : ℕ) → (drawn s x i number).pending ≡ s.pending
-drawn_pending s x i number =
+drawn_beside : (s : State) (x : Session) (i : Interval) (number : ℕ) → (drawn s x i number).in_flight ≡ s.in_flight
+drawn_beside s x i number =
     let t : State = record s { sessions = with_session x.name (with_draw (num_of i number)) s.sessions } in
     let behind : Bool → State = λ b. if b then record t { ranges = handed_out i t.ranges; stored = raised_to i number t.stored } else t in
-    elim (is_buffered i) as (λ b. (behind b).pending ≡ s.pending) [ true ↦ refl | false ↦ refl ]
+    elim (is_buffered i) as (λ b. (behind b).in_flight ≡ s.in_flight) [ true ↦ refl | false ↦ refl ]
 
-flights : (Q : Option Ledger → Type 0) (found : Found) (s : State) → Q s.pending → Q None → OfEach (λ call v. Q (judged s v).state.pending) found s
+flights : (Q : Option Ledger → Type 0) (found : Found) (s : State) → Q s.in_flight → Q None → OfEach (λ call v. Q (judged s v).state.in_flight) found s
 flights Q found s h none = record {
   refuses = λ call r plain. h;
   enters = λ name user free. h;
@@ -93,7 +93,7 @@ flights Q found s h none = record {
   lowers = λ name x rs at. h;
   frees = λ name x at. h;
   converts = λ name x wanted c at e. h;
-  draws = λ name x object nr r at can. subst Q (sym (drawn_pending s x (present s.stored.levels r.interval) _)) h;
+  draws = λ name x object nr r at can. subst Q (sym (drawn_beside s x (present s.stored.levels r.interval) _)) h;
   reserves = λ name x object nr upto r at can. h;
   reads = λ name x table key at. h;
   commits_nothing = λ name x parts stock at. h;
@@ -114,9 +114,9 @@ flights Q found s h none = record {
 }
 
 -- a call leaves it, or makes it known
-pub verdict_pending : (Q : Option Ledger → Type 0) (found : Found) (s : State) (call : Call) → Q s.pending → Q None
-    → Q (judged s (call_verdict found s call)).state.pending
-verdict_pending Q found s call h none = by_call (λ call v. Q (judged s v).state.pending) found s (flights Q found s h none) call
+pub verdict_in_flight : (Q : Option Ledger → Type 0) (found : Found) (s : State) (call : Call) → Q s.in_flight → Q None
+    → Q (judged s (call_verdict found s call)).state.in_flight
+verdict_in_flight Q found s call h none = by_call (λ call v. Q (judged s v).state.in_flight) found s (flights Q found s h none) call
 
 -- a call that neither ends a lock server nor makes one anew leaves the condition
 abbrev KeepsCondition : State → Call → Verdict → Type 0
@@ -218,17 +218,18 @@ stays_or_ends : (fails : Bool) (c d : Condition) → (doubt_in d ≡ doubt_in c)
 stays_or_ends fails c d (inl same) = inl same
 stays_or_ends fails c d (inr up) = inr (inl up)
 
-failing_past : (s : State) (call : Call) (pending : Option Ledger)
-    → (doubted (without_stock call s) call None pending).condition ≡ condition.Doubt (length s.past + 1)
-failing_past s call pending =
-    by_stock (λ other t. (doubted t call None pending).condition ≡ condition.Doubt (length s.past + 1)) s (λ name parts stock. refl) (λ other. refl) call
+failing_past : (s : State) (call : Call) (in_flight : Option Ledger)
+    → (doubted (without_stock call s) call None in_flight).condition ≡ condition.Doubt (length s.past + 1)
+failing_past s call in_flight =
+    by_stock (λ other t. (doubted t call None in_flight).condition ≡ condition.Doubt (length s.past + 1)) s (λ name parts stock. refl) (λ other. refl) call
 
 served_becomes : (o : DeviceOutcome) (s : State) (c : Command) → Becomes (leaves_doubt o.event) s.condition (served o s c).state.condition
 served_becomes o s c =
     elim o.event as (λ e. Becomes (leaves_doubt e) s.condition (served (record { event = e; reading = o.reading; lost = o.lost }) s c).state.condition) [
       | AllWell ↦ stays_or_ends false _ _ (verdict_doubt _ s (call_of c))
       | Wanting ↦ inl refl
-      | StoreFails ↦ inr (inr (refl, (length s.past, failing_past s (call_of c) (pending_after o.reading s (call_of c) (verdict (found_by o.reading s) s c)))))
+      | StoreFails ↦ inr
+          (inr (refl, (length s.past, failing_past s (call_of c) (in_flight_after o.reading s (call_of c) (verdict (found_by o.reading s) s c)))))
       | BackupFails ↦ inr (inr (refl, (length s.past, refl)))
       | LinkFails ↦ inl refl
       | NotRemade fault ↦ inr (inr (refl, (length s.past, refl)))

@@ -1,6 +1,6 @@
 -- The open units and their locks, as calls change both.
 use Rattle.std.proofs.Common.{◌≡◌, ℕ, Bool, true, false, not, ◌&&◌, List, [], arith, length, refl, sym, ap, ◌∙◌, subst}
-use Rattle.std.specs.Prelude.{◌||◌, ◌++◌, if◌then◌else◌, nat_eq, IsTrue, Option, Some, None}
+use Rattle.std.specs.Prelude.{◌||◌, ◌++◌, if◌then◌else◌, IsTrue, Option, Some, None}
 use Rattle.std.specs.List.{AllByRecursion}
 use Rattle.std.proofs.lemmas.Bool.{and_from, false≢true, or_left}
 use Rattle.enq_base.specs.declared.condition.Condition.{Condition}
@@ -19,10 +19,10 @@ use Rattle.update_records.specs.Ledger.{Ledger}
 use Rattle.update_records.specs.declared.records.MarkKind.TheVariants as mark
 use Rattle.hall_model.specs.Calls.{Call, call_of, only_reads, restarts, wants_server, writes_store_first}
 use Rattle.hall_model.specs.Devices.{DeviceOutcome, Event, AllWell, Wanting, StoreFails, BackupFails, LinkFails, NotRemade, IsAllowed, IsTold, MayBeDone, MayHappen, Reading, found_by}
-use Rattle.hall_model.specs.History.{doubted, ends_in, is_unread, judged, pending_after, served, stored_before_file, without_stock}
-use Rattle.hall_model.specs.Kept.{CanStand, HasGoodLocks, HasLanding, HasOpenUnits, HasSoundLocks, IsSteady, OutsideDoubt, WhileListed, WhileUp}
+use Rattle.hall_model.specs.History.{doubted, ends_in, in_flight_after, is_unread, judged, served, stored_before_file, without_stock}
+use Rattle.hall_model.specs.Kept.{CanStand, HasGoodLocks, HasOpenUnits, HasSoundLocks, HasStateInFlight, IsSteady, OutsideDoubt, WhileListed, WhileUp}
 use Rattle.hall_model.specs.Numbers.{drawn, next_number, raised_to}
-use Rattle.hall_model.specs.OpenUnits.{HoldsOpenUnits, OfPending, open_entries}
+use Rattle.hall_model.specs.OpenUnits.{HoldsOpenUnits, OfInFlight, open_entries}
 use Rattle.hall_model.specs.Orders.{order_of}
 use Rattle.hall_model.specs.Sessions.{with_draw, with_session}
 use Rattle.hall_model.specs.State.{State, is_honest, table_for}
@@ -36,7 +36,8 @@ use Rattle.hall_laws.proofs.keeping.SoundLocks.{behind-sound, each-sound, withou
 use Rattle.hall_laws.proofs.keeping.Unchanged.{list_told}
 use Rattle.hall_laws.proofs.open_units.StoredLocks.{first_held, open_fit, open_stands}
 use Rattle.hall_laws.proofs.open_units.HandedLocks.{HoldsAfter, again2-ends, cancelled-held, held_call, numbered-held, posted-held, raised-held, unopened-held}
-use Rattle.hall_laws.proofs.keeping.Restarts.{restart_lands}
+use Rattle.hall_laws.proofs.keeping.Restarts.{restart_in_flight}
+use Rattle.ledger_steps.specs.Parts.{is_first}
 
 -- ---- what can stand together
 
@@ -79,19 +80,19 @@ pub holds_up : (s : State) → HasOpenUnits s → s.condition ≡ condition.Up �
 holds_up s h up = holds_listed s.condition (s.attached && s.link_told) (IsTrue (is_honest s) → HoldsOpenUnits s.locks s.stored) h.held up
 
 -- what a restart finds in the store, with what was read
-abbrev AnewLands : Found → State → Type 0
-AnewLands found s = HasLanding s (stored_anew (is_taken found.anew) s.stored s.pending)
+abbrev HoldsAnew : Found → State → Type 0
+HoldsAnew found s = HasStateInFlight s (stored_anew (is_taken found.anew) s.stored s.in_flight)
 
 -- Where the locks can be told from the calls, those of the open units can stand together behind each call.
-each-together : (found : Found) (s : State) → IsSteady s → HasSoundLocks s → HasOpenUnits s → OfPending s.pending (HasLanding s) → AnewLands found s
+each-together : (found : Found) (s : State) → IsSteady s → HasSoundLocks s → HasOpenUnits s → OfInFlight s.in_flight (HasStateInFlight s) → HoldsAnew found s
     → OfEach (λ call v. HasItsServer s call → IsTrue (is_honest s) → CanStand (judged s v).state.stored) found s
-each-together found s steady sound units landing anew =
+each-together found s steady sound units state_in_flight anew =
     let own = open_entries s.stored in
     let alone : State = record s { locks = own; limit = length own } in
     let held : HoldsOpenUnits own s.stored = first_held s.stored sound.stored in
     let calls : (t : IsTrue (is_honest s)) → s.condition ≡ condition.Up → OfEach (HoldsAfter s) found s =
     λ t up. held_call found s steady sound (steady.owned.users t) (holds_up s units up t) in
-    let tables = each-sound found s steady units sound landing in
+    let tables = each-sound found s steady units sound state_in_flight in
     record {
       refuses = λ call r plain up t. units.stored t;
       enters = λ name user free up t. units.stored t;
@@ -113,7 +114,7 @@ each-together found s steady sound units landing anew =
       rolls_back = λ name x at up t. units.stored t;
       takes = λ worker part unit free e up t. units.stored t;
       posts = λ worker part unit e up t.
-          stand_in _ (length own) _ (behind-sound alone unit (nat_eq part 1) (own_table s.stored (units.stored t)))
+          stand_in _ (length own) _ (behind-sound alone unit (is_first part) (own_table s.stored (units.stored t)))
           (posted-held part s.stored unit (found.part part unit) own (held_for part s.stored (order_of s.orders worker) unit e).1 held);
       drops = λ worker unit e up t. units.stored t;
       kills = λ was up t. units.stored t;
@@ -164,12 +165,12 @@ by_served P found s refuses each call =
       | Some r ↦ λ shut. subst (P call) (sym (refused_verdict found s call r shut)) (refuses call r)
     ] refl
 
-pub verdict-together : (found : Found) (s : State) (call : Call) → IsSteady s → HasSoundLocks s → HasOpenUnits s → OfPending s.pending (HasLanding s)
+pub verdict-together : (found : Found) (s : State) (call : Call) → IsSteady s → HasSoundLocks s → HasOpenUnits s → OfInFlight s.in_flight (HasStateInFlight s)
     → IsTrue (is_honest s) → CanStand (judged s (call_verdict found s call)).state.stored
-verdict-together found s call steady sound units landing =
-    let anew = restart_lands (is_taken found.anew) s sound.stored steady units landing in
+verdict-together found s call steady sound units state_in_flight =
+    let anew = restart_in_flight (is_taken found.anew) s sound.stored steady units state_in_flight in
     by_served (λ c v. IsTrue (is_honest s) → CanStand (judged s v).state.stored) found s (λ c r t. units.stored t)
-    (each-together found s steady sound units landing anew) call
+    (each-together found s steady sound units state_in_flight anew) call
 
 pub while_up : (c : Condition) (P : Type 0) → (c ≡ condition.Up → P) → WhileUp c P
 while_up condition.Up P f = f refl
@@ -199,7 +200,7 @@ detached-open : (s : State) → HasOpenUnits s → HasOpenUnits (detached s)
 detached-open s h = record {
   held = detached_listed s.condition (s.attached && s.link_told) s.link_told s.max_locks s.limit s.locks s.stored (IsTrue (is_honest s)) h.held;
   stored = h.stored;
-  pending = h.pending;
+  in_flight = h.in_flight;
 }
 
 or_false : (b : Bool) → (b || false) ≡ true → b ≡ true
@@ -217,10 +218,10 @@ over-open found s can told h t =
     (or_left s.link_told (not s.taken_over) linked))
 
 -- nothing is in flight where there is no lock server
-quiet_pending : (s : State) (Q : Ledger → Type 0) → s.condition ≡ condition.NoServer → IsSteady s → OfPending s.pending Q
-quiet_pending s Q none steady =
-    let quiet : s.pending ≡ None = subst (λ c. OutsideDoubt c (s.pending ≡ None)) none steady.settled in
-    subst (λ o. OfPending o Q) (sym quiet) tt
+quiet_in_flight : (s : State) (Q : Ledger → Type 0) → s.condition ≡ condition.NoServer → IsSteady s → OfInFlight s.in_flight Q
+quiet_in_flight s Q none steady =
+    let quiet : s.in_flight ≡ None = subst (λ c. OutsideDoubt c (s.in_flight ≡ None)) none steady.settled in
+    subst (λ o. OfInFlight o Q) (sym quiet) tt
 
 drawn-open : (s : State) (x : Session) (i : Interval) (number : ℕ) → HasSoundLocks s → HasOpenUnits s → HasOpenUnits (drawn s x i number)
 drawn-open s x i number sound h =
@@ -229,9 +230,9 @@ drawn-open s x i number sound h =
       | true ↦ record {
         held = listed_more s.condition (s.attached && s.link_told) _ _ (λ k sure. raised-held s.stored i number s.locks (k sure)) h.held;
         stored = λ sure. raised-stands s.stored i number sound.stored (h.stored sure);
-        pending = h.pending;
+        in_flight = h.in_flight;
       }
-      | false ↦ record { held = h.held; stored = h.stored; pending = h.pending }
+      | false ↦ record { held = h.held; stored = h.stored; in_flight = h.in_flight }
     ]
 
 table_stands : (ledger : Ledger) (limit : ℕ) → IsTable (record { entries = open_entries ledger; limit = limit }) → CanStand ledger
@@ -241,13 +242,13 @@ table_stands ledger limit table =
     record { together = table.sound; fit = omega (arith, within, fits) }
 
 module _ (found : Found) (s : State) (steady : IsSteady s) (sound : HasSoundLocks s) (units : HasOpenUnits s)
-    (landing : OfPending s.pending (HasLanding s))
+    (state_in_flight : OfInFlight s.in_flight (HasStateInFlight s))
     (told : IsTold s.link_told (found.list ≡ s.locks)) where
-  anew : AnewLands found s
-  anew = restart_lands (is_taken found.anew) s sound.stored steady units landing
+  anew : HoldsAnew found s
+  anew = restart_in_flight (is_taken found.anew) s sound.stored steady units state_in_flight
 
   together : OfEach (λ call v. HasItsServer s call → IsTrue (is_honest s) → CanStand (judged s v).state.stored) found s
-  together = each-together found s steady sound units landing anew
+  together = each-together found s steady sound units state_in_flight anew
 
   calls : IsTrue (is_honest s) → HoldsOpenUnits s.locks s.stored → OfEach (HoldsAfter s) found s
   calls sure k = held_call found s steady sound (steady.owned.users sure) k
@@ -259,97 +260,97 @@ module _ (found : Found) (s : State) (steady : IsSteady s) (sound : HasSoundLock
   each-open : OfEach (λ call v. HasItsServer s call → MayBeDone call v → HasOpenUnits (judged s v).state) found s
   each-open = record {
     refuses = λ call r plain up done. units;
-    enters = λ name user free up done. record { held = units.held; stored = units.stored; pending = units.pending };
+    enters = λ name user free up done. record { held = units.held; stored = units.stored; in_flight = units.in_flight };
     logs_off = λ name x at up done. record {
       held = more _ (λ sure k. (calls sure k).logs_off name x at refl);
       stored = units.stored;
-      pending = units.pending;
+      in_flight = units.in_flight;
     };
     grants = λ name x rs locks at e up done. record {
       held = more _ (λ sure k. (calls sure k).grants name x rs locks at e refl);
       stored = units.stored;
-      pending = units.pending;
+      in_flight = units.in_flight;
     };
     lowers = λ name x rs at up done. record {
       held = more _ (λ sure k. (calls sure k).lowers name x rs at refl);
       stored = units.stored;
-      pending = units.pending;
+      in_flight = units.in_flight;
     };
     frees = λ name x at up done. record {
       held = more _ (λ sure k. (calls sure k).frees name x at refl);
       stored = units.stored;
-      pending = units.pending;
+      in_flight = units.in_flight;
     };
     converts = λ name x wanted c at e up done. record {
       held = more _ (λ sure k. (calls sure k).converts name x wanted c at e refl);
       stored = units.stored;
-      pending = units.pending;
+      in_flight = units.in_flight;
     };
     draws = λ name x object nr r at can up done. drawn-open s x (present s.stored.levels r.interval) _ sound units;
     reserves = λ name x object nr upto r at can up done. record {
       held = more _ (λ sure k. (calls sure k).reserves name x object nr upto r at can refl);
       stored = together.reserves name x object nr upto r at can up;
-      pending = units.pending;
+      in_flight = units.in_flight;
     };
     reads = λ name x table key at up done. units;
     commits_nothing = λ name x parts stock at up done. units;
     commits_numbers = λ name x parts stock at up done. record {
       held = more _ (λ sure k. (calls sure k).commits_numbers name x parts stock at refl);
       stored = together.commits_numbers name x parts stock at up;
-      pending = units.pending;
+      in_flight = units.in_flight;
     };
     commits = λ name x parts stock at up done. record {
       held = more _ (λ sure k. (calls sure k).commits name x parts stock at refl);
       stored = together.commits name x parts stock at up;
-      pending = units.pending;
+      in_flight = units.in_flight;
     };
     rolls_back = λ name x at up done. record {
       held = more _ (λ sure k. (calls sure k).rolls_back name x at refl);
       stored = units.stored;
-      pending = units.pending;
+      in_flight = units.in_flight;
     };
-    takes = λ worker part unit free e up done. record { held = units.held; stored = units.stored; pending = units.pending };
+    takes = λ worker part unit free e up done. record { held = units.held; stored = units.stored; in_flight = units.in_flight };
     posts = λ worker part unit e up done. record {
       held = more _ (λ sure k. (calls sure k).posts worker part unit e refl);
       stored = together.posts worker part unit e up;
-      pending = units.pending;
+      in_flight = units.in_flight;
     };
-    drops = λ worker unit e up done. record { held = units.held; stored = units.stored; pending = units.pending };
+    drops = λ worker unit e up done. record { held = units.held; stored = units.stored; in_flight = units.in_flight };
     kills = λ was up done. record {
       held = λ follows sure. subst (λ b. HoldsOpenUnits (if b then s.locks else []) s.stored) (sym follows) (holds_up s units was sure);
       stored = units.stored;
-      pending = units.pending;
+      in_flight = units.in_flight;
     };
     fails_over = λ can up done. record {
       held = over-open found s can told units;
       stored = λ sure. units.stored (or_left s.link_told (not s.taken_over) (or_false s.link_told sure));
-      pending = quiet_pending s _ can.none steady;
+      in_flight = quiet_in_flight s _ can.none steady;
     };
     strays = λ first second none up done. detached-open s units;
     attaches = λ was up done. record {
       held = subst (λ k. WhileListed k (true && s.link_told) (IsTrue (is_honest s) → HoldsOpenUnits s.locks s.stored)) (sym was) (holds_up s units was);
       stored = units.stored;
-      pending = units.pending;
+      in_flight = units.in_flight;
     };
     restarts = λ off up done. record {
-      held = λ sure. first_held (stored_anew (is_taken found.anew) s.stored s.pending) anew.units;
-      stored = λ sure. table_stands (stored_anew (is_taken found.anew) s.stored s.pending) _ done;
-      pending = tt;
+      held = λ sure. first_held (stored_anew (is_taken found.anew) s.stored s.in_flight) anew.units;
+      stored = λ sure. table_stands (stored_anew (is_taken found.anew) s.stored s.in_flight) _ done;
+      in_flight = tt;
     };
     cancels = λ unit status can up done. record {
       held = more _ (λ sure k. (calls sure k).cancels unit status can refl);
       stored = together.cancels unit status can up;
-      pending = units.pending;
+      in_flight = units.in_flight;
     };
     reopens = λ unit es here stand up done. record {
       held = more _ (λ sure k. (calls sure k).reopens unit es here stand refl);
       stored = together.reopens unit es here stand up;
-      pending = units.pending;
+      in_flight = units.in_flight;
     };
     reposts = λ unit here up done. record {
       held = more _ (λ sure k. (calls sure k).reposts unit here refl);
       stored = together.reposts unit here up;
-      pending = units.pending;
+      in_flight = units.in_flight;
     };
   }
 
@@ -359,55 +360,57 @@ module _ (found : Found) (s : State) (steady : IsSteady s) (sound : HasSoundLock
 -- ---- any event
 
 -- what is so of the change in flight, and of what the call leaves stored, is so of the change in flight where the store fails
-pub flying : (Q : Ledger → Type 0) (reading : Reading) (s : State) (call : Call) (v : Verdict) → OfPending s.pending Q → Q (judged s v).state.stored
-    → OfPending (pending_after reading s call v) Q
+pub flying : (Q : Ledger → Type 0) (reading : Reading) (s : State) (call : Call) (v : Verdict) → OfInFlight s.in_flight Q → Q (judged s v).state.stored
+    → OfInFlight (in_flight_after reading s call v) Q
 flying Q reading s call (Refuses r) before h = before
 flying Q reading s call (Leaves after r) before h =
-    elim (only_reads call || is_unread reading call) as (λ b. OfPending (if b then s.pending else Some after.stored) Q) [ true ↦ before | false ↦ h ]
+    elim (only_reads call || is_unread reading call) as (λ b. OfInFlight (if b then s.in_flight else Some after.stored) Q) [ true ↦ before | false ↦ h ]
 
 -- what the store has where the disk fails
 filed : (Q : Ledger → Type 0) (s : State) (call : Call) (v : Verdict) → Q s.stored → Q (judged s v).state.stored → Q (stored_before_file s call v)
 filed Q s call (Refuses r) before h = before
 filed Q s call (Leaves after r) before h = elim (writes_store_first call) as (λ b. Q (if b then after.stored else s.stored)) [ true ↦ h | false ↦ before ]
 
-failing-open : (s : State) (call : Call) (pending : Option Ledger) → HasOpenUnits s
-    → OfPending pending (λ ledger. IsTrue (is_honest s) → IsSound (open_entries ledger)) → HasOpenUnits (doubted (without_stock call s) call None pending)
-failing-open s call pending h flight =
-    by_stock (λ other t. HasOpenUnits (doubted t other None pending)) s
-    (λ name parts stock. record { held = tt; stored = h.stored; pending = flight }) (λ other. record { held = tt; stored = h.stored; pending = flight }) call
+failing-open : (s : State) (call : Call) (in_flight : Option Ledger) → HasOpenUnits s
+    → OfInFlight in_flight (λ ledger. IsTrue (is_honest s) → IsSound (open_entries ledger)) → HasOpenUnits (doubted (without_stock call s) call None in_flight)
+failing-open s call in_flight h flight =
+    by_stock (λ other t. HasOpenUnits (doubted t other None in_flight)) s
+    (λ name parts stock. record { held = tt; stored = h.stored; in_flight = flight })
+    (λ other. record { held = tt; stored = h.stored; in_flight = flight }) call
 
-ended-open : (e : Event) (reading : Reading) (s : State) (call : Call) → IsSteady s → HasSoundLocks s → HasOpenUnits s → OfPending s.pending (HasLanding s)
+ended-open : (e : Event) (reading : Reading) (s : State) (call : Call) → IsSteady s → HasSoundLocks s → HasOpenUnits s
+    → OfInFlight s.in_flight (HasStateInFlight s)
     → IsTold s.link_told ((found_by reading s).list ≡ s.locks) → MayHappen e s call (call_verdict (found_by reading s) s call)
     → HasOpenUnits (ends_in e reading s call (call_verdict (found_by reading s) s call)).state
-ended-open AllWell reading s call steady sound h landing told may = verdict-open (found_by reading s) s steady sound h landing told call may
-ended-open Wanting reading s call steady sound h landing told may = h
-ended-open StoreFails reading s call steady sound h landing told may =
+ended-open AllWell reading s call steady sound h state_in_flight told may = verdict-open (found_by reading s) s steady sound h state_in_flight told call may
+ended-open Wanting reading s call steady sound h state_in_flight told may = h
+ended-open StoreFails reading s call steady sound h state_in_flight told may =
     let found = found_by reading s in
     failing-open s call _ h
-    (flying (λ ledger. IsTrue (is_honest s) → IsSound (open_entries ledger)) reading s call (call_verdict found s call) h.pending
-    (λ sure. (verdict-together found s call steady sound h landing sure).together))
-ended-open BackupFails reading s call steady sound h landing told may =
+    (flying (λ ledger. IsTrue (is_honest s) → IsSound (open_entries ledger)) reading s call (call_verdict found s call) h.in_flight
+    (λ sure. (verdict-together found s call steady sound h state_in_flight sure).together))
+ended-open BackupFails reading s call steady sound h state_in_flight told may =
     let found = found_by reading s in
     let now = filed (λ ledger. IsTrue (is_honest s) → CanStand ledger) s call (call_verdict found s call) h.stored
-    (verdict-together found s call steady sound h landing) in
-    record { held = tt; stored = now; pending = h.pending }
-ended-open LinkFails reading s call steady sound h landing told may = detached-open s h
-ended-open (NotRemade fault) reading s call steady sound h landing told may = record { held = tt; stored = h.stored; pending = h.pending }
+    (verdict-together found s call steady sound h state_in_flight) in
+    record { held = tt; stored = now; in_flight = h.in_flight }
+ended-open LinkFails reading s call steady sound h state_in_flight told may = detached-open s h
+ended-open (NotRemade fault) reading s call steady sound h state_in_flight told may = record { held = tt; stored = h.stored; in_flight = h.in_flight }
 
 still_follows : (lost attached told : Bool) → ((not lost && attached) && told) ≡ true → (attached && told) ≡ true
 still_follows true attached told h = absurd (false≢true h)
 still_follows false attached told h = h
 
 pub served-open : (o : DeviceOutcome) (s : State) (c : Command) → IsAllowed o s c → IsSteady s → HasSoundLocks s → HasOpenUnits s
-    → OfPending s.pending (HasLanding s)
+    → OfInFlight s.in_flight (HasStateInFlight s)
     → HasOpenUnits (served o s c).state
-served-open o s c allowed steady sound h landing =
+served-open o s c allowed steady sound h state_in_flight =
     let possible = allowed.possible in
-    let done = ended-open o.event o.reading s (call_of c) steady sound h landing (list_told o.reading s (call_of c) possible.reading) possible.event in
+    let done = ended-open o.event o.reading s (call_of c) steady sound h state_in_flight (list_told o.reading s (call_of c) possible.reading) possible.event in
     let t = (ends_in o.event o.reading s (call_of c) (call_verdict (found_by o.reading s) s (call_of c))).state in
     record {
       held = listed_fewer t.condition (t.attached && t.link_told) ((not o.lost && t.attached) && t.link_told) _
           (still_follows o.lost t.attached t.link_told) done.held;
       stored = done.stored;
-      pending = done.pending;
+      in_flight = done.in_flight;
     }

@@ -1,6 +1,6 @@
 -- Each call keeps that the handed locks of the table are those of the open units.
 use Rattle.std.proofs.Common.{◌≡◌, ℕ, Bool, true, false, not, List, [], ◌∷◌, ◌++◌, map, fold, cond, refl, sym, ap, ◌∙◌, subst}
-use Rattle.std.specs.Prelude.{if◌then◌else◌, nat_eq, nat_le, ◌-◌, Option, Some, None, Ok}
+use Rattle.std.specs.Prelude.{if◌then◌else◌, nat_le, ◌-◌, Option, Some, None, Ok}
 use Rattle.std.specs.List.{AllByRecursion, filter, find, list_all}
 use Rattle.std.specs.Option.{option_map_or}
 use Rattle.std.proofs.lemmas.List.{append-nil}
@@ -67,6 +67,8 @@ use Rattle.hall_laws.proofs.keeping.Owners.{stored_owner}
 use Rattle.hall_laws.proofs.histories.OwnLocks.{IsOther, filter_all, halves_of_others, none_of_others, none_stay, its_conversion, its_freed, its_freed_owner, its_granted, its_handed_over}
 use Rattle.model_laws.proofs.Resubmissions.{readmitted_is, table_in}
 use Rattle.hall_laws.proofs.histories.LockUsers.{OnSome, every_replaced, every_turned}
+use Rattle.ledger_steps.specs.declared.part.Part.{Part}
+use Rattle.ledger_steps.specs.Parts.{is_first}
 
 by_unit : (P : Type 0) (key other : UnitKey) → (key ≡ other → P) → (same_unit key other ≡ false → P) → P
 by_unit P key other f g =
@@ -399,15 +401,15 @@ HoldsBy es ledger unit one two first =
     status_in ledger unit ≡ Some (if first then Open else Posted)
     → HoldsOpenUnits (if first then freed_owner es (Upd unit) else es) (with_mark ledger unit (if first then one else two))
 
-pub posted-held : (part : ℕ) (ledger : Ledger) (unit : UnitKey) (o : Outcome) (es : List Entry) → WaitsFor part ledger unit → HoldsOpenUnits es ledger
+pub posted-held : (part : Part) (ledger : Ledger) (unit : UnitKey) (o : Outcome) (es : List Entry) → WaitsFor part ledger unit → HoldsOpenUnits es ledger
     → HoldsOpenUnits (locks_behind part es unit) (with_mark ledger unit (kind_for part o))
 posted-held part ledger unit outcome.Done es waits h =
-    elim (nat_eq part 1) as (HoldsBy es ledger unit mark.V1 mark.V2) [
+    elim (is_first part) as (HoldsBy es ledger unit mark.V1 mark.V2) [
       | true ↦ λ w. ended-held ledger unit mark.V1 es v1-ends h
       | false ↦ λ w. unopened-held ledger unit mark.V2 Posted es w posted_closed v2-ends h
     ] waits
 posted-held part ledger unit (outcome.Refused index reason) es waits h =
-    elim (nat_eq part 1) as (HoldsBy es ledger unit (mark.Bad1 index reason) (mark.Bad2 index reason)) [
+    elim (is_first part) as (HoldsBy es ledger unit (mark.Bad1 index reason) (mark.Bad2 index reason)) [
       | true ↦ λ w. ended-held ledger unit (mark.Bad1 index reason) es (bad1-ends index reason) h
       | false ↦ λ w. unopened-held ledger unit (mark.Bad2 index reason) Posted es w posted_closed (bad2-ends index reason) h
     ] waits

@@ -32,6 +32,7 @@ use Rattle.model_laws.proofs.EachLock.{every_at, every_by, may_be_readmitted, ev
 use Rattle.hall_laws.proofs.keeping.Owners.{every_stored, stored_owner}
 use Rattle.hall_laws.proofs.histories.OwnLocks.{filter_all, its_freed_owner, none_of_others}
 use Rattle.model_laws.proofs.WaitingUnits.{all_open, differ, open_listed, open_owners_differ, waiting_differ}
+use Rattle.ledger_steps.specs.declared.part.Part.TheVariants.{V1}
 
 -- ---- one unit behind the other
 
@@ -60,8 +61,8 @@ source_among ledger (key ∷ keys) e k =
 -- each is stored with an open unit
 open_source : (ledger : Ledger) (e : Entry) → Among (open_entries ledger) e → (key : UnitKey) × IsOpenUnit ledger key × Among (entries_of ledger.units key) e
 open_source ledger e k =
-    let r = source_among ledger (waiting_for 1 ledger) e k in
-    (r.0, every_at (IsOpenUnit ledger) (waiting_for 1 ledger) r.0 (all_open ledger) r.1, r.2)
+    let r = source_among ledger (waiting_for V1 ledger) e k in
+    (r.0, every_at (IsOpenUnit ledger) (waiting_for V1 ledger) r.0 (all_open ledger) r.1, r.2)
 
 every_open : (P : Entry → Type 0) (ledger : Ledger)
     → ((key : UnitKey) → IsOpenUnit ledger key → (e : Entry) → Among (entries_of ledger.units key) e → P e) → AllByRecursion P (open_entries ledger)
@@ -79,7 +80,7 @@ open_stands locks ledger sound h =
       sound = sound;
       distinct = open_owners_differ ledger;
       entries = All-from_recursion (Fits locks) (open_locks ledger)
-          (every_map (IsOpenUnit ledger) (Fits locks) (locks_of ledger) (λ key waits. sym (h.units key waits)) (waiting_for 1 ledger) (all_open ledger));
+          (every_map (IsOpenUnit ledger) (Fits locks) (locks_of ledger) (λ key waits. sym (h.units key waits)) (waiting_for V1 ledger) (all_open ledger));
     })
 
 -- ---- they are no more than the locks of the table
@@ -117,9 +118,9 @@ theirs_fit ledger (key ∷ keys) locks apart h =
 
 pub open_fit : (locks : List Entry) (ledger : Ledger) → HoldsOpenUnits locks ledger → length (open_entries ledger) ≤ length locks
 open_fit locks ledger h =
-    theirs_fit ledger (waiting_for 1 ledger) locks (waiting_differ ledger)
+    theirs_fit ledger (waiting_for V1 ledger) locks (waiting_differ ledger)
     (every_more (IsOpenUnit ledger) (λ key. filter (is_of (Upd key)) locks ≡ entries_of ledger.units key) (λ key waits. h.units key waits)
-    (waiting_for 1 ledger) (all_open ledger))
+    (waiting_for V1 ledger) (all_open ledger))
 
 -- ---- a table with just these
 
@@ -169,7 +170,7 @@ its_entries ledger unit (key ∷ keys) good h (inr k) =
 -- the table with which a start begins
 pub first_held : (ledger : Ledger) → AllByRecursion HasGoodLocks ledger.units → HoldsOpenUnits (open_entries ledger) ledger
 first_held ledger good = record {
-  units = λ unit waits. its_entries ledger unit (waiting_for 1 ledger) good (waiting_differ ledger) (open_listed ledger unit waits);
+  units = λ unit waits. its_entries ledger unit (waiting_for V1 ledger) good (waiting_differ ledger) (open_listed ledger unit waits);
   handed = every_open (IsOpenIfHanded ledger) ledger (λ key waits e k handed. subst (IsOpenOwner ledger) (sym (stored_owner ledger.units key e good k)) waits);
 }
 

@@ -68,7 +68,7 @@ pub first_open : (limit mark_limit : ℕ) (intervals : List Interval) (told link
 first_open limit mark_limit intervals told link ledger good first = record {
   held = λ honest. first_held ledger (first_stored ledger first);
   stored = λ honest. record { together = good.sound; fit = under (length (open_entries ledger)) _ good.within good.limit_fits };
-  pending = tt;
+  in_flight = tt;
 }
 
 first_here : (told link : Bool) (max_locks mark_limit : ℕ) (intervals : List Interval) (ledger : Ledger) → mark_limit ≤ 1048576 → AgreeWith intervals ledger
@@ -80,7 +80,7 @@ first_here told link max_locks mark_limit intervals ledger limited agree first g
       steady = first_steady max_locks mark_limit intervals told link ledger limited good agree first;
       sound = first_sound max_locks mark_limit intervals told link ledger good first;
       open_units = first_open max_locks mark_limit intervals told link ledger good first;
-      landing = tt;
+      state_in_flight = tt;
     }
 
 pub first_kept : (told link : Bool) (table : Table) (max_locks mark_limit : ℕ) (intervals : List Interval) (ledger : Ledger) (sessions : List Session)

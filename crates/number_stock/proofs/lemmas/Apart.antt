@@ -7,7 +7,7 @@ use Rattle.atomic_table.specs.Table.{Me, step, keeps, Allows, Splits}
 use Rattle.seat_sums.specs.Sums.{times, one_if}
 use Rattle.seat_sums.proofs.lemmas.Totals.{total_set, each_set, each_snoc, times_append}
 use Rattle.number_stock.specs.declared.hand.Hand.{Hand}
-use Rattle.number_stock.specs.Rule.{Fits, Kept, IsJoined, Owns, OwnsAnswers, both_of, given_of, heard, kept_of, parted}
+use Rattle.number_stock.specs.Rule.{Fits, Kept, IsJoined, Owns, OwnsAnswers, both_of, given_of, heard, kept_of, parted, rest_of}
 
 -- what is so of the answers of a joined seat is so of each one's
 pub all_front : (P : ℕ → Type 0) (xs ys : List ℕ) → All P (xs ++ ys) → All P xs
@@ -95,6 +95,22 @@ or_none false = refl
 pub kept_none : (v : Hand) → kept_of 0 v ≡ v
 kept_none v = λ i. record {
   draws = minus_none v.draws i;
+  tickets = v.tickets;
+  answered = v.answered;
+  limit = v.limit;
+  looks = v.looks;
+  raises = v.raises;
+  right_leads =
+      v.right_leads;
+}
+
+minus_all : (n : ℕ) → n - n ≡ 0
+minus_all n = omega arith
+
+-- a seat that gives all its draws away has the rest
+pub kept_rest : (v : Hand) → kept_of v.draws v ≡ rest_of v
+kept_rest v = λ i. record {
+  draws = minus_all v.draws i;
   tickets = v.tickets;
   answered = v.answered;
   limit = v.limit;

@@ -17,26 +17,26 @@ use Rattle.lock_entry.specs.Barring.{places_meet}
 use Rattle.lock_entry.specs.Turning.{name_in, with_count_of, turned_by, turned_entry, turned}
 use Rattle.lock_entry.specs.Converting.{turns, gives_way, conversion}
 use Rattle.lock_laws.proofs.TurnTests.{turned-push, turned-nothing}
-use Rattle.replica_link.specs.Operations.{replica}
+use Rattle.replica_link.specs.Operations.{after_ops}
 use Rattle.replica_link.specs.Shipping.{drop_of, turn_ops, converted_ops}
-use Rattle.replica_link.proofs.lemmas.Drops.{replica-append, named_in, IsNameTest, AreNamed, own_names, drops_leave}
+use Rattle.replica_link.proofs.lemmas.Drops.{after_ops-append, named_in, IsNameTest, AreNamed, own_names, drops_leave}
 
 and_false : (b : Bool) → (b && false) ≡ false
 and_false true = refl
 and_false false = refl
 
 -- the turns of further arguments
-turns_more : (t : List Entry) (asker : Asker) (done rest : List Asked) → replica (turned t (turns asker done)) (flat_map (turn_ops asker) rest) ≡ turned t
+turns_more : (t : List Entry) (asker : Asker) (done rest : List Asked) → after_ops (turned t (turns asker done)) (flat_map (turn_ops asker) rest) ≡ turned t
     (turns asker (done ++ rest))
 turns_more t asker done [] = ap (λ ks. turned t (turns asker ks)) (sym (append-nil done))
 turns_more t asker done (a ∷ rest) =
-    ap (λ (s : List Entry). replica s (flat_map (turn_ops asker) rest)) (turned-push t asker done a)
+    ap (λ (s : List Entry). after_ops s (flat_map (turn_ops asker) rest)) (turned-push t asker done a)
     ∙ turns_more t asker (done ++ a ∷ []) rest
     ∙ ap (λ ks. turned t (turns asker ks)) (append_assoc done (a ∷ []) rest)
 
-turns_all : (t : List Entry) (asker : Asker) (asked : List Asked) → replica t (flat_map (turn_ops asker) asked) ≡ turned t (turns asker asked)
+turns_all : (t : List Entry) (asker : Asker) (asked : List Asked) → after_ops t (flat_map (turn_ops asker) asked) ≡ turned t (turns asker asked)
 turns_all t asker asked =
-    ap (λ (s : List Entry). replica s (flat_map (turn_ops asker) asked)) (sym (turned-nothing (turns asker []) (λ e. and_false (in_pair asker e.owner)) t))
+    ap (λ (s : List Entry). after_ops s (flat_map (turn_ops asker) asked)) (sym (turned-nothing (turns asker []) (λ e. and_false (in_pair asker e.owner)) t))
     ∙ turns_more t asker [] asked
 
 -- an entry keeps its owner where it turns
@@ -89,8 +89,8 @@ module _ (asker : Asker) (asked : List Asked) (t : List Entry) where
         λ a b e. ap (λ (n : LockName). not (in_pair asker n.owner) && (same_mode n.asked.mode O && list_any (places_meet n.asked) asked)) e;
   }
 
-  pub converted_ops-conversion : replica t (converted_ops asker asked (conversion t asker asked).removed) ≡ (conversion t asker asked).entries
+  pub converted_ops-conversion : after_ops t (converted_ops asker asked (conversion t asker asked).removed) ≡ (conversion t asker asked).entries
   converted_ops-conversion =
-      replica-append t (flat_map (turn_ops asker) asked) (map drop_of (filter way t))
-      ∙ ap (λ (s : List Entry). replica s (map drop_of (filter way t))) (turns_all t asker asked)
+      after_ops-append t (flat_map (turn_ops asker) asked) (map drop_of (filter way t))
+      ∙ ap (λ (s : List Entry). after_ops s (map drop_of (filter way t))) (turns_all t asker asked)
       ∙ drops_leave way way-IsNameTest t (turned t (turns asker asked)) (turned_names t t (own_names way t))

@@ -10,12 +10,12 @@ use Rattle.lock_entry.specs.Names.{has_name, name_of, is_of}
 use Rattle.lock_entry.specs.Freeing.{without, freed_owner}
 use Rattle.lock_entry.proofs.lemmas.Naming.{same_name-refl, same_name-same}
 use Rattle.replica_link.specs.declared.operation.TableOp.{TableOp}
-use Rattle.replica_link.specs.Operations.{after_op, replica}
+use Rattle.replica_link.specs.Operations.{after_op, after_ops}
 use Rattle.replica_link.specs.Shipping.{drop_of, owner_ops}
 
-pub replica-append : (t : List Entry) (xs ys : List TableOp) → replica t (xs ++ ys) ≡ replica (replica t xs) ys
-replica-append t [] ys = refl
-replica-append t (x ∷ xs) ys = replica-append (after_op t x) xs ys
+pub after_ops-append : (t : List Entry) (xs ys : List TableOp) → after_ops t (xs ++ ys) ≡ after_ops (after_ops t xs) ys
+after_ops-append t [] ys = refl
+after_ops-append t (x ∷ xs) ys = after_ops-append (after_op t x) xs ys
 
 pub filter_filter : {X : Type 0} (p q : X → Bool) (t : List X) → filter p (filter q t) ≡ filter (λ e. q e && p e) t
 filter_filter p q [] = refl
@@ -47,7 +47,7 @@ neither : (a b : Bool) → (not a && not b) ≡ not (a || b)
 neither true b = refl
 neither false b = refl
 
-drops_each : (ds t : List Entry) → replica t (map drop_of ds) ≡ filter (λ e. not (named_in ds e)) t
+drops_each : (ds t : List Entry) → after_ops t (map drop_of ds) ≡ filter (λ e. not (named_in ds e)) t
 drops_each [] [] = refl
 drops_each [] (e ∷ t) = ap (λ (r : List Entry). e ∷ r) (drops_each [] t)
 drops_each (d ∷ ds) t =
@@ -99,11 +99,11 @@ same_bool false false f g = refl
 
 -- the drops of those that pass leave the others
 pub drops_leave : (p : Entry → Bool) → IsNameTest p → (from t : List Entry) → AreNamed p from t
-    → replica t (map drop_of (filter p from)) ≡ filter (λ e. not (p e)) t
+    → after_ops t (map drop_of (filter p from)) ≡ filter (λ e. not (p e)) t
 drops_leave p is from t named =
     drops_each (filter p from) t
     ∙ filter_agree _ _ t (all_weaker _ _ (λ e so. ap not (same_bool (named_in (filter p from) e) (p e) (named_passes p is from e) so)) t named)
 
-pub owner_ops-freed_owner : (t : List Entry) (owner : Owner) → replica t (owner_ops t owner) ≡ freed_owner t owner
+pub owner_ops-freed_owner : (t : List Entry) (owner : Owner) → after_ops t (owner_ops t owner) ≡ freed_owner t owner
 owner_ops-freed_owner t owner =
     drops_leave (is_of owner) (record { same = λ a b e. ap (λ (n : LockName). same_owner n.owner owner) e }) t t (own_names (is_of owner) t)

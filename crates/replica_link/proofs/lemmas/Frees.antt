@@ -12,7 +12,7 @@ use Rattle.lock_entry.proofs.lemmas.Naming.{same_name-refl}
 use Rattle.lock_entry.proofs.lemmas.Places.{replace_first-none}
 use Rattle.lock_entry.proofs.lemmas.Lists.{find-None}
 use Rattle.replica_link.specs.declared.operation.TableOp.TheVariants.{Put}
-use Rattle.replica_link.specs.Operations.{after_op, replica, instead_of}
+use Rattle.replica_link.specs.Operations.{after_op, after_ops, instead_of}
 use Rattle.replica_link.specs.Shipping.{drop_of, lowered_op, freed_ops}
 use Rattle.replica_link.proofs.Distinct.{AreDistinct, distinct_from, found_here, found_later, found_named, found_stands}
 
@@ -77,9 +77,9 @@ lowered_op-freed n t e distinct found =
           ∙ freed_put n t e distinct found more
     ]
 
-pub freed_ops-freed : (t : List Entry) (n : LockName) → has_distinct_names t ≡ true → replica t (freed_ops t n) ≡ freed t n
+pub freed_ops-freed : (t : List Entry) (n : LockName) → has_distinct_names t ≡ true → after_ops t (freed_ops t n) ≡ freed t n
 freed_ops-freed t n distinct = by_found (find (has_name n) t) refl
   where
-    by_found : (o : Option Entry) → find (has_name n) t ≡ o → replica t (option_map_or (λ e. lowered_op e ∷ []) o []) ≡ freed t n
+    by_found : (o : Option Entry) → find (has_name n) t ≡ o → after_ops t (option_map_or (λ e. lowered_op e ∷ []) o []) ≡ freed t n
     by_found None none = sym (replace_first-none (has_name n) lowered t (find-None (has_name n) t none))
     by_found (Some e) found = lowered_op-freed n t e (distinct_from t distinct) found

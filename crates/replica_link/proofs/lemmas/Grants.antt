@@ -17,10 +17,10 @@ use Rattle.lock_entry.proofs.lemmas.Naming.{same_name-refl, same_name-same, same
 use Rattle.lock_entry.proofs.lemmas.Lists.{find-None, all_pairs-filter, all_pairs-append}
 use Rattle.replica_link.specs.declared.operation.TableOp.{TableOp}
 use Rattle.replica_link.specs.declared.operation.TableOp.TheVariants.{Put}
-use Rattle.replica_link.specs.Operations.{replica, instead_of}
+use Rattle.replica_link.specs.Operations.{after_ops, instead_of}
 use Rattle.replica_link.specs.Shipping.{granted_ops, owner_ops, readmitted_ops}
 use Rattle.replica_link.proofs.Distinct.{AreDistinct, distinct_from, found_here, found_later, found_named}
-use Rattle.replica_link.proofs.lemmas.Drops.{replica-append, owner_ops-freed_owner}
+use Rattle.replica_link.proofs.lemmas.Drops.{after_ops-append, owner_ops-freed_owner}
 use Rattle.replica_link.proofs.Names.{is_in, newcomers, newcomers-new_names, is_in-stands, times_none, granted-distinct}
 
 -- the table has the list's names first and in order, and differs from it only at entries that the names name
@@ -157,16 +157,16 @@ drop_push (x ∷ list) (z ∷ table) rest y behind = drop_push list table rest y
 abbrev one_put : Option Entry → List TableOp
 one_put o = option_map_or (λ e. Put e ∷ []) o []
 
-granted_ops-grant : (ns : List LockName) (list table : List Entry) → IsGrant ns list table → replica list (granted_ops table ns) ≡ table
+granted_ops-grant : (ns : List LockName) (list table : List Entry) → IsGrant ns list table → after_ops list (granted_ops table ns) ≡ table
 granted_ops-grant [] list table g = none_left list table g.places g.news
 granted_ops-grant (n ∷ ns) list table g =
     elim (cases_Bool (is_in n (map name_of list))) [
       | inl known ↦
           let stood : stands list n ≡ true = sym (is_in-stands n list) ∙ known in
-          (elim (find (has_name n) table) as (λ o. find (has_name n) table ≡ o → replica list (one_put o ++ granted_ops table ns) ≡ table) [
+          (elim (find (has_name n) table) as (λ o. find (has_name n) table ≡ o → after_ops list (one_put o ++ granted_ops table ns) ≡ table) [
             | None ↦ λ none. absurd (false≢true (sym (find-None (has_name n) table none) ∙ stands_too n (n ∷ ns) list table g.places stood))
             | Some e ↦ λ found.
-                ap (λ b. replica (cond b (map (instead_of e) list) (list ++ e ∷ [])) (granted_ops table ns))
+                ap (λ b. after_ops (cond b (map (instead_of e) list) (list ++ e ∷ [])) (granted_ops table ns))
                 (ap (stands list) (sym (found_named n table e found)) ∙ stood)
                 ∙ granted_ops-grant ns (map (instead_of e) list) table (record {
                   places = places_put n ns e list table (found_named n table e found) g.distinct found g.places;
@@ -183,14 +183,14 @@ granted_ops-grant (n ∷ ns) list table g =
           let news = g.news ∙ ap (λ b. cond b (newcomers (map name_of list) ns) (n ∷ newcomers (map name_of list ++ n ∷ []) ns)) new in
           (elim (drop (length list) table)
           as (λ d. drop (length list) table ≡ d → map name_of d ≡ n ∷ newcomers (map name_of list ++ n ∷ []) ns
-          → replica list (granted_ops table (n ∷ ns)) ≡ table) [
+          → after_ops list (granted_ops table (n ∷ ns)) ≡ table) [
             | [] ↦ λ behind names. absurd (cc)
             | y ∷ rest ↦ λ behind names.
                 let is : name_of y ≡ n = cc in
                 let tail : map name_of rest ≡ newcomers (map name_of list ++ n ∷ []) ns = cc in
                 let found = find_behind n (n ∷ ns) list table rest y g.places none behind is in
-                ap (λ (o : Option Entry). replica list (one_put o ++ granted_ops table ns)) found
-                ∙ ap (λ b. replica (cond b (map (instead_of y) list) (list ++ y ∷ [])) (granted_ops table ns)) (ap (stands list) is ∙ none)
+                ap (λ (o : Option Entry). after_ops list (one_put o ++ granted_ops table ns)) found
+                ∙ ap (λ b. after_ops (cond b (map (instead_of y) list) (list ++ y ∷ [])) (granted_ops table ns)) (ap (stands list) is ∙ none)
                 ∙ granted_ops-grant ns (list ++ y ∷ []) table (record {
                   places = places_push ns list table rest y (other_places n ns list table none g.places) behind;
                   news =
@@ -223,7 +223,7 @@ new_entry-names user names [] = refl
 new_entry-names user names (n ∷ ns) = ap (λ (r : List LockName). n ∷ r) (new_entry-names user names ns)
 
 pub granted_ops-granted : (list : List Entry) (user : List ℕ) (names : List LockName) → has_distinct_names list ≡ true
-    → replica list (granted_ops (granted list user names) names) ≡ granted list user names
+    → after_ops list (granted_ops (granted list user names) names) ≡ granted list user names
 granted_ops-granted list user names distinct =
     granted_ops-grant names list (granted list user names) (record {
       places = raised_places names list (map (new_entry user names) (new_names list names));
@@ -244,10 +244,10 @@ not_before (x ∷ r) es e distinct =
     ap (λ b. b || stands r (name_of e)) (apart (name_of x) (name_of e) (behind_none (name_of x) r es e distinct.0))
     ∙ not_before r es e distinct.1
 
-puts_last : (es r : List Entry) → AreDistinct (r ++ es) → replica r (map Put es) ≡ r ++ es
+puts_last : (es r : List Entry) → AreDistinct (r ++ es) → after_ops r (map Put es) ≡ r ++ es
 puts_last [] r distinct = sym (append-nil r)
 puts_last (e ∷ es) r distinct =
-    ap (λ b. replica (cond b (map (instead_of e) r) (r ++ e ∷ [])) (map Put es)) (not_before r es e distinct)
+    ap (λ b. after_ops (cond b (map (instead_of e) r) (r ++ e ∷ [])) (map Put es)) (not_before r es e distinct)
     ∙ puts_last es (r ++ e ∷ []) (subst AreDistinct (sym (append_assoc r (e ∷ []) es)) distinct)
     ∙ append_assoc r (e ∷ []) es
 
@@ -272,11 +272,11 @@ others_differ owner (x ∷ t) es all =
     ]
 
 pub readmitted_ops-readmitted : (t : List Entry) (asker : Asker) (given : List Entry) → has_distinct_names t ≡ true → ReadmitsOnly asker given
-    → replica t (readmitted_ops t asker.update given) ≡ freed_owner t asker.update ++ given
+    → after_ops t (readmitted_ops t asker.update given) ≡ freed_owner t asker.update ++ given
 readmitted_ops-readmitted t asker given distinct only =
     let others = freed_owner t asker.update in
-    replica-append t (owner_ops t asker.update) (map Put given)
-    ∙ ap (λ (r : List Entry). replica r (map Put given)) (owner_ops-freed_owner t asker.update)
+    after_ops-append t (owner_ops t asker.update) (map Put given)
+    ∙ ap (λ (r : List Entry). after_ops r (map Put given)) (owner_ops-freed_owner t asker.update)
     ∙ puts_last given others
     (distinct_from (others ++ given)
     (all_pairs-append names_differ others given (all_pairs-filter names_differ (λ e. not (is_of asker.update e)) t distinct) only.names

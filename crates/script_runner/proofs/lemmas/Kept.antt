@@ -2,7 +2,7 @@
 use Rattle.std.proofs.Common.{◌≡◌, inl, inr, ℕ, ◌≤◌, Bool, true, false, List, [], ◌∷◌, ◌++◌, refl, sym, ap, ◌∙◌, subst, arith}
 use Rattle.std.specs.Prelude.{if◌then◌else◌, Option}
 use Rattle.enq_base.specs.declared.refusal.Refusal.TheVariants as refusal
-use Rattle.enq_server.specs.Following.{Following, IsLater}
+use Rattle.enq_server.specs.Replica.{IsLater, ReplicaView}
 use Rattle.hall_laws.proofs.keeping.Unchanged.{served-past}
 use Rattle.hall_calls.proofs.lemmas.Replies.{unnoted_same}
 use Rattle.hall_model.specs.Calls.{call_of, renews_replica}
@@ -26,8 +26,8 @@ same_counts a = record { faults = omega arith; refusals = omega arith }
 later_on : (a b c : LinkCounts) → AreLater a b → AreLater b c → AreLater a c
 later_on a b c h k = record { faults = omega (arith, h.faults, k.faults); refusals = omega (arith, h.refusals, k.refusals) }
 
-pub later_counts : {L : Type 0} (applied : L → Option (List Entry)) (faults refusals : L → ℕ) (old new : Following L) → IsLater applied faults refusals old new
-    → AreLater (link_counts faults refusals old.link) (link_counts faults refusals new.link)
+pub later_counts : {L : Type 0} (applied : L → Option (List Entry)) (faults refusals : L → ℕ) (old new : ReplicaView L)
+    → IsLater applied faults refusals old new → AreLater (link_counts faults refusals old.link) (link_counts faults refusals new.link)
 later_counts applied faults refusals old new h = record { faults = h.faults_later; refusals = h.refusals_later }
 
 one_from : (a b c : LinkCounts) → AreLater a b → OneRose b c → OneRose a c

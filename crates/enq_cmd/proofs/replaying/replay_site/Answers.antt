@@ -43,7 +43,7 @@ returns-in-Ok-clause-served g c =
     c.into_site-keeper.ensures.left c.into_site-keeper.ensures.lists c.into_site-keeper.ensures.open_units
     (g.L.Link.applied c.make_ended.result.site.link)
     (subst (λ l. c.replay-why.new.hall.state.attached ≡ true → IfSome (g.L.Link.applied l) (λ list. list ≡ c.replay-why.new.hall.state.locks))
-    (sym c.make_ended.ensures.link) c.into_site-keeper.ensures.copy)
+    (sym c.make_ended.ensures.link) c.into_site-keeper.ensures.replica)
     c.replay-why.ensures.good_file c.replay-why.ensures.good_store c.replay-why.ensures.good_replica _ _ _ _ _ run in
     inl (record {
       land = o.land;
@@ -134,7 +134,7 @@ returns-in-Ok-clause-link_fault g c =
     let o = c.in-Ok.ensures.opened in
     link_quiet o.land (is_some (g.K.Keeper.held c.args.site.keeper)) (is_some (g.L.Link.applied c.args.site.link)) c.in-Ok.hall.state.stored
     c.in-Ok.hall.state c.replay-why.new.hall.state c.make_ended.result.past
-    (faults c.in-Ok.hall.follower.link) (faults c.replay-why.new.hall.follower.link) (faults c.args.site.link) (faults c.make_ended.result.site.link)
+    (faults c.in-Ok.hall.replica.link) (faults c.replay-why.new.hall.replica.link) (faults c.args.site.link) (faults c.make_ended.result.site.link)
     o.first (c.make_ended.ensures.past ∙ c.into_site-keeper.ensures.past) (ap faults o.linked)
     (ap faults (sym (c.make_ended.ensures.link ∙ c.into_site-keeper.ensures.link)))
     c.replay-why.ensures.link_fault
@@ -149,7 +149,7 @@ returns-in-Ok-clause-link_counts g c =
     let new = c.replay-why.new.hall in
     run_linked g.L.Link.faults g.L.Link.refusals o.land (is_some (g.K.Keeper.held c.args.site.keeper))
     (is_some (g.L.Link.applied c.args.site.link)) old.state.stored old.state new.state
-    c.make_ended.result.past c.args.site.link old.follower.link new.follower.link c.make_ended.result.site.link
+    c.make_ended.result.past c.args.site.link old.replica.link new.replica.link c.make_ended.result.site.link
     o.first (c.make_ended.ensures.past ∙ c.into_site-keeper.ensures.past) o.linked (c.make_ended.ensures.link ∙ c.into_site-keeper.ensures.link)
     c.replay-why.ensures.link_counts
 

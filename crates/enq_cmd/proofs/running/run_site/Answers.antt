@@ -43,7 +43,7 @@ returns-in-Ok-clause-threads g c =
     (c.run-hall.ensures.told) c.into_site-keeper.ensures.left c.into_site-keeper.ensures.lists c.into_site-keeper.ensures.open_units
     (applied c.make_ended.result.site.link)
     (subst (λ l. c.run-hall.result.0.state.attached ≡ true → IfSome (applied l) (λ list. list ≡ c.run-hall.result.0.state.locks))
-    (sym c.make_ended.ensures.link) c.into_site-keeper.ensures.copy)
+    (sym c.make_ended.ensures.link) c.into_site-keeper.ensures.replica)
     c.as_slice.result.now c.as_slice.ensures c.args.workers _ _ _ _ _ _ _ _ c.run-hall.result.1 c.make_ended.result.why c.make_ended.ensures.why
     c.run-hall.ensures.runs)
 

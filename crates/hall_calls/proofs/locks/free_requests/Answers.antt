@@ -1,8 +1,8 @@
 use Rattle.std.proofs.Common.{sym, subst, arith, rules}
 use Rattle.std.proofs.lemmas.Grind.{common_steps}
-use Rattle.enq_server.proofs.lemmas.Following.{keeps_both}
+use Rattle.enq_server.proofs.lemmas.Replicas.{keeps_both}
 use Rattle.lock_entry.specs.Names.{halves_of}
-use Rattle.hall_calls.proofs.following.LostFrees.{IsLess, all_less, freed_both}
+use Rattle.hall_calls.proofs.replica.LostFrees.{IsLess, all_less, freed_both}
 use Rattle.hall_calls.proofs.locks.free_requests.Goals as goal
 
 pub loop-request-preserved : goal.loop-request-preserved
@@ -15,11 +15,11 @@ loop-request-preserved g c =
       limit = search rules;
       standing = search rules;
       file = search rules;
-      freed = freed_both old.copy between.copy new.copy old.table between.table new.table c.loop-request.invariant.freed (record {
+      freed = freed_both old.replica between.replica new.replica old.table between.table new.table c.loop-request.invariant.freed (record {
         less = subst (IsLess between.table) (sym c.free_request.ensures.table)
             (all_less (halves_of c.args.pair.now c.request-item.result) between.table);
         lost = c.free_request.ensures.lost;
       });
-      follower = keeps_both g.L.Link.applied g.L.Link.faults g.L.Link.refusals old.copy between.copy new.copy c.loop-request.invariant.follower
-          c.free_request.ensures.follower;
+      replica = keeps_both g.L.Link.applied g.L.Link.faults g.L.Link.refusals old.replica between.replica new.replica c.loop-request.invariant.replica
+          c.free_request.ensures.replica;
     }

@@ -1,8 +1,8 @@
 use Rattle.std.proofs.Common.{◌≡◌, drop, fold}
-use Rattle.enq_server.specs.Following.{KeepsOn}
+use Rattle.enq_server.specs.Replica.{KeepsOn}
 use Rattle.lock_entry.specs.Freeing.{freed}
 use Rattle.lock_entry.specs.Names.{halves}
-use Rattle.hall_calls.proofs.following.LostFrees.{IsFreed}
+use Rattle.hall_calls.proofs.replica.LostFrees.{IsFreed}
 use Rattle.hall_calls.proofs.locks.free_requests.Given as goal
 
 abbrev pub invariant-loop-request : goal.invariant-loop-request
@@ -12,6 +12,6 @@ invariant-loop-request g l = record {
   limit : l.locks.table.limit ≡ l.initial.locks.table.limit;
   standing : l.locks.stands ≡ l.initial.locks.stands;
   file : l.locks.file ≡ l.initial.locks.file;
-  freed : IsFreed l.initial.locks.copy l.locks.copy l.initial.locks.table l.locks.table;
-  follower : KeepsOn g.L.Link.applied g.L.Link.faults g.L.Link.refusals l.initial.locks.copy l.locks.copy;
+  freed : IsFreed l.initial.locks.replica l.locks.replica l.initial.locks.table l.locks.table;
+  replica : KeepsOn g.L.Link.applied g.L.Link.faults g.L.Link.refusals l.initial.locks.replica l.locks.replica;
 }

@@ -22,31 +22,35 @@ returns-in-Err-clause-store g c =
 
 pub raise-requires-clause-store : goal.raise-requires-clause-store
 raise-requires-clause-store g c =
-    next_stored c.args.sessions.now c.args.ranges.now c.args.books.now.ledger c.requires.drawn c.args.name.now c.args.object.now c.args.nr c.in-Ok.draw.interval
+    next_stored c.args.sessions.now c.args.ranges.now c.args.books.now.ledger c.requires.drawn c.args.call.now.session.now c.args.call.now.object.now
+    c.args.call.now.nr c.in-Ok.draw.interval
     c.in-Ok.draw.number c.in-Ok.draw.level c.in-Ok.draw.draws.items c.in-Ok.ensures.draw
     (buffered_so _ c.if-draw-gt0.true)
 
 pub returns-in-Err-raise-clause-act : goal.returns-in-Err-raise-clause-act
 returns-in-Err-raise-clause-act g c s e f l room =
-    draws_unraised s c.args.sessions.now c.args.ranges.now c.args.books.now.ledger c.args.name.now c.args.object.now c.args.nr
+    draws_unraised s c.args.sessions.now c.args.ranges.now c.args.books.now.ledger c.args.call.now.session.now c.args.call.now.object.now c.args.call.now.nr
     (record { own_sessions = e; own_ranges = f; own_ledger = l }) room c.in-Ok.draw.interval c.in-Ok.draw.number c.in-Ok.draw.level c.in-Ok.draw.draws.items
     c.in-Ok.ensures.draw
     (buffered_so _ c.if-draw-gt0.true) c.in-Err-raise.failed c.in-Err-raise.ensures.fault c.raise.new.books.ledger c.in-Err-raise.ensures.kept
 
 pub hand_out-requires : goal.hand_out-requires
 hand_out-requires g c =
-    next_room c.args.sessions.now c.args.ranges.now c.args.books.now.ledger c.requires.drawn c.args.name.now c.args.object.now c.args.nr c.in-Ok.draw.interval
+    next_room c.args.sessions.now c.args.ranges.now c.args.books.now.ledger c.requires.drawn c.args.call.now.session.now c.args.call.now.object.now
+    c.args.call.now.nr c.in-Ok.draw.interval
     c.in-Ok.draw.number c.in-Ok.draw.level c.in-Ok.draw.draws.items c.in-Ok.ensures.draw
     (buffered_so _ c.if-draw-gt0.true)
 
 pub code-requires-clause-interval : goal.code-requires-clause-interval
 code-requires-clause-interval g c =
-    next_is c.args.sessions.now c.args.ranges.now c.args.books.now.ledger c.requires.drawn c.args.name.now c.args.object.now c.args.nr c.in-Ok.draw.interval
+    next_is c.args.sessions.now c.args.ranges.now c.args.books.now.ledger c.requires.drawn c.args.call.now.session.now c.args.call.now.object.now
+    c.args.call.now.nr c.in-Ok.draw.interval
     c.in-Ok.draw.number c.in-Ok.draw.level c.in-Ok.draw.draws.items c.in-Ok.ensures.draw
 
 pub code-requires-clause-low : goal.code-requires-clause-low
 code-requires-clause-low g c =
-    next_low c.args.sessions.now c.args.ranges.now c.args.books.now.ledger c.requires.drawn c.args.name.now c.args.object.now c.args.nr c.in-Ok.draw.interval
+    next_low c.args.sessions.now c.args.ranges.now c.args.books.now.ledger c.requires.drawn c.args.call.now.session.now c.args.call.now.object.now
+    c.args.call.now.nr c.in-Ok.draw.interval
     c.in-Ok.draw.number c.in-Ok.draw.level c.in-Ok.draw.draws.items c.in-Ok.ensures.draw
 
 pub returns-clause-act : goal.returns-clause-act
@@ -54,16 +58,19 @@ returns-clause-act g c s e f l room =
     let i = c.in-Ok.draw.interval in
     let number = c.in-Ok.draw.number in
     let here = c.if-draw-gt0 in
-    let call = command.Number c.args.name.now c.args.object.now c.args.nr in
-    let is = next_is c.args.sessions.now c.args.ranges.now c.args.books.now.ledger c.requires.drawn c.args.name.now c.args.object.now c.args.nr
+    let call = command.Number c.args.call.now.session.now c.args.call.now.object.now c.args.call.now.nr in
+    let is = next_is c.args.sessions.now c.args.ranges.now c.args.books.now.ledger c.requires.drawn c.args.call.now.session.now c.args.call.now.object.now
+    c.args.call.now.nr
     c.in-Ok.draw.interval c.in-Ok.draw.number c.in-Ok.draw.level c.in-Ok.draw.draws.items c.in-Ok.ensures.draw in
-    let within = next_high c.args.sessions.now c.args.ranges.now c.args.books.now.ledger c.requires.drawn c.args.name.now c.args.object.now c.args.nr
+    let within = next_high c.args.sessions.now c.args.ranges.now c.args.books.now.ledger c.requires.drawn c.args.call.now.session.now c.args.call.now.object.now
+    c.args.call.now.nr
     c.in-Ok.draw.interval c.in-Ok.draw.number c.in-Ok.draw.level c.in-Ok.draw.draws.items c.in-Ok.ensures.draw in
     subst (λ (k : Code). IsAct s call (record s { sessions = c.set_draws.new.self; ranges = here.ranges; stored = here.books.ledger }) (reply.Number number k))
     (sym c.code.ensures)
     (elim here.branch [
       | then-draw-gt0+in_default w ↦
-          draws_buffered s c.args.sessions.now c.args.ranges.now c.args.books.now.ledger c.args.name.now c.args.object.now c.args.nr
+          draws_buffered s c.args.sessions.now c.args.ranges.now c.args.books.now.ledger c.args.call.now.session.now c.args.call.now.object.now
+          c.args.call.now.nr
           (record { own_sessions = e; own_ranges = f; own_ledger = l }) room c.in-Ok.draw.interval c.in-Ok.draw.number c.in-Ok.draw.level
           c.in-Ok.draw.draws.items c.in-Ok.ensures.draw
           (buffered_so _ w.if-draw-gt0.true) is.within within c.set_draws.new.self here.ranges here.books.ledger c.set_draws.ensures
@@ -77,7 +84,7 @@ returns-clause-act g c s e f l room =
             stored =
                 ap (λ (b : BooksView g.row.K.Denot). b.ledger) (sym w.books-is) k;
           })
-          (draws_plain s c.args.sessions.now c.args.ranges.now c.args.books.now.ledger c.args.name.now c.args.object.now c.args.nr
+          (draws_plain s c.args.sessions.now c.args.ranges.now c.args.books.now.ledger c.args.call.now.session.now c.args.call.now.object.now c.args.call.now.nr
           (record { own_sessions = e; own_ranges = f; own_ledger = l }) room c.in-Ok.draw.interval c.in-Ok.draw.number c.in-Ok.draw.level
           c.in-Ok.draw.draws.items c.in-Ok.ensures.draw
           (plain_of _ (omega (arith, none))) c.set_draws.new.self c.set_draws.ensures)
@@ -100,7 +107,8 @@ returns-clause-store g c =
 pub returns-in-Err-raise-clause-keeper : goal.returns-in-Err-raise-clause-keeper
 returns-in-Err-raise-clause-keeper g c s e l off =
     c.raise.ensures.still
-    (draw_still c.args.sessions.now c.args.ranges.now c.args.books.now.ledger c.args.name.now c.args.object.now c.args.nr c.in-Ok.draw.interval
+    (draw_still c.args.sessions.now c.args.ranges.now c.args.books.now.ledger c.args.call.now.session.now c.args.call.now.object.now c.args.call.now.nr
+    c.in-Ok.draw.interval
     c.in-Ok.draw.number c.in-Ok.draw.level c.in-Ok.draw.draws.items c.in-Ok.ensures.draw
     (buffered_so _ c.if-draw-gt0.true) s e l off)
 
@@ -110,7 +118,8 @@ returns-clause-keeper g c s e l off =
       | then-draw-gt0+in_default w ↦
           ap (λ (b : BooksView g.row.K.Denot). b.keeper) w.books-is
           ∙ w.raise.ensures.still
-          (draw_still c.args.sessions.now c.args.ranges.now c.args.books.now.ledger c.args.name.now c.args.object.now c.args.nr c.in-Ok.draw.interval
+          (draw_still c.args.sessions.now c.args.ranges.now c.args.books.now.ledger c.args.call.now.session.now c.args.call.now.object.now c.args.call.now.nr
+          c.in-Ok.draw.interval
           c.in-Ok.draw.number c.in-Ok.draw.level c.in-Ok.draw.draws.items c.in-Ok.ensures.draw
           (buffered_so _ w.if-draw-gt0.true) s e l off)
       | else-draw-gt0 w ↦ ap (λ (b : BooksView g.row.K.Denot). b.keeper) w.books-is

@@ -13,32 +13,37 @@ returns-in-Err-clause-store g c =
 
 pub raise-requires-clause-store : goal.raise-requires-clause-store
 raise-requires-clause-store g c =
-    reserve_stored c.args.sessions.now c.args.ranges.now c.args.books.now.ledger c.requires.drawn c.args.name.now c.args.object.now c.args.nr c.args.upto
+    reserve_stored c.args.sessions.now c.args.ranges.now c.args.books.now.ledger c.requires.drawn c.args.call.now.session.now c.args.call.now.object.now
+    c.args.call.now.nr c.args.upto
     c.in-Ok.found.0 c.in-Ok.found.1 c.in-Ok.ensures.interval
 
 pub returns-in-Ok-raise-clause-act : goal.returns-in-Ok-raise-clause-act
 returns-in-Ok-raise-clause-act g c s e f l room =
-    let is = reserve_is c.args.sessions.now c.args.ranges.now c.args.books.now.ledger c.requires.drawn c.args.name.now c.args.object.now c.args.nr c.args.upto
+    let is = reserve_is c.args.sessions.now c.args.ranges.now c.args.books.now.ledger c.requires.drawn c.args.call.now.session.now c.args.call.now.object.now
+    c.args.call.now.nr c.args.upto
     c.in-Ok.found.0 c.in-Ok.found.1 c.in-Ok.ensures.interval in
-    let within = reserve_high c.args.sessions.now c.args.ranges.now c.args.books.now.ledger c.requires.drawn c.args.name.now c.args.object.now c.args.nr
+    let within = reserve_high c.args.sessions.now c.args.ranges.now c.args.books.now.ledger c.requires.drawn c.args.call.now.session.now
+    c.args.call.now.object.now c.args.call.now.nr
     c.args.upto c.in-Ok.found.0 c.in-Ok.found.1 c.in-Ok.ensures.interval in
-    reserves s c.args.sessions.now c.args.ranges.now c.args.books.now.ledger c.args.name.now c.args.object.now c.args.nr
+    reserves s c.args.sessions.now c.args.ranges.now c.args.books.now.ledger c.args.call.now.session.now c.args.call.now.object.now c.args.call.now.nr
     (record { own_sessions = e; own_ranges = f; own_ledger = l }) c.args.upto room c.in-Ok.found.0 c.in-Ok.found.1 c.in-Ok.ensures.interval
     is.within within c.raise.new.books.ledger c.in-Ok-raise.ensures.ledger
 
 pub returns-in-Err-raise-clause-act : goal.returns-in-Err-raise-clause-act
 returns-in-Err-raise-clause-act g c s e f l room =
-    reserves_unraised s c.args.sessions.now c.args.ranges.now c.args.books.now.ledger c.args.name.now c.args.object.now c.args.nr
+    reserves_unraised s c.args.sessions.now c.args.ranges.now c.args.books.now.ledger c.args.call.now.session.now c.args.call.now.object.now c.args.call.now.nr
     (record { own_sessions = e; own_ranges = f; own_ledger = l }) c.args.upto room c.in-Ok.found.0 c.in-Ok.found.1 c.in-Ok.ensures.interval
     c.in-Err-raise.failed c.in-Err-raise.ensures.fault c.raise.new.books.ledger c.in-Err-raise.ensures.kept
 
 pub returns-in-Ok-raise-clause-keeper : goal.returns-in-Ok-raise-clause-keeper
 returns-in-Ok-raise-clause-keeper g c s e l off =
     c.raise.ensures.still
-    (reserve_still c.args.sessions.now c.args.ranges.now c.args.books.now.ledger c.args.name.now c.args.object.now c.args.nr c.args.upto c.in-Ok.found.0
+    (reserve_still c.args.sessions.now c.args.ranges.now c.args.books.now.ledger c.args.call.now.session.now c.args.call.now.object.now c.args.call.now.nr
+    c.args.upto c.in-Ok.found.0
     c.in-Ok.found.1 c.in-Ok.ensures.interval s e l off)
 
 pub returns-in-Err-raise-clause-keeper : goal.returns-in-Err-raise-clause-keeper
 returns-in-Err-raise-clause-keeper g c s e l off = c.raise.ensures.still
-    (reserve_still c.args.sessions.now c.args.ranges.now c.args.books.now.ledger c.args.name.now c.args.object.now c.args.nr c.args.upto c.in-Ok.found.0
+    (reserve_still c.args.sessions.now c.args.ranges.now c.args.books.now.ledger c.args.call.now.session.now c.args.call.now.object.now c.args.call.now.nr
+    c.args.upto c.in-Ok.found.0
     c.in-Ok.found.1 c.in-Ok.ensures.interval s e l off)

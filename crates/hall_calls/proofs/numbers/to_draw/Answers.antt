@@ -15,21 +15,24 @@ pub returns-in_err-session-clause-refused : goal.returns-in_err-session-clause-r
 returns-in_err-session-clause-refused g c =
     let p = err_from_is_err_and c.from_residual.result c.from_residual.ensures.1 in
     let none = c.in_err-session.ensures.unknown in
-    if_err c.from_residual.result (RefusesDraw c.args.sessions.now c.args.ranges.now c.args.books.now.ledger c.args.name.now c.args.object.now c.args.nr) p.0
+    if_err c.from_residual.result
+    (RefusesDraw c.args.sessions.now c.args.ranges.now c.args.books.now.ledger c.args.call.now.session.now c.args.call.now.object.now c.args.call.now.nr)
+    p.0
     p.1
-    (λ s e f l room. draws_unknown s c.args.sessions.now c.args.ranges.now c.args.books.now.ledger c.args.name.now c.args.object.now c.args.nr
+    (λ s e f l room. draws_unknown s c.args.sessions.now c.args.ranges.now c.args.books.now.ledger c.args.call.now.session.now c.args.call.now.object.now
+    c.args.call.now.nr
     (record { own_sessions = e; own_ranges = f; own_ledger = l }) room p.0 none.0 (p.2 ∙ none.1))
 
 pub returns-in_default-clause-refused : goal.returns-in_default-clause-refused
 returns-in_default-clause-refused g c s e f l room =
-    draws_nowhere s c.args.sessions.now c.args.ranges.now c.args.books.now.ledger c.args.name.now c.args.object.now c.args.nr
+    draws_nowhere s c.args.sessions.now c.args.ranges.now c.args.books.now.ledger c.args.call.now.session.now c.args.call.now.object.now c.args.call.now.nr
     (record { own_sessions = e; own_ranges = f; own_ledger = l }) room c.in_ok-session.session.now c.in_ok-session.ensures.found (sym c.in_default.ensures)
 
 pub returns-then-as_slice-ge-DRAWS_LIMIT-clause-refused : goal.returns-then-as_slice-ge-DRAWS_LIMIT-clause-refused
 returns-then-as_slice-ge-DRAWS_LIMIT-clause-refused g c s e f l room =
     let many = c.if-as_slice-ge-DRAWS_LIMIT.true in
     let same = ap length c.as_slice.ensures in
-    draws_too_many s c.args.sessions.now c.args.ranges.now c.args.books.now.ledger c.args.name.now c.args.object.now c.args.nr
+    draws_too_many s c.args.sessions.now c.args.ranges.now c.args.books.now.ledger c.args.call.now.session.now c.args.call.now.object.now c.args.call.now.nr
     (record { own_sessions = e; own_ranges = f; own_ledger = l }) room c.in_ok-session.session.now c.in-Some.range.now c.in_ok-session.ensures.found
     (sym c.in-Some.ensures)
     (at_least _ (omega (arith, many, same)))
@@ -38,7 +41,7 @@ pub returns-in-Some-other_holder-clause-refused : goal.returns-in-Some-other_hol
 returns-in-Some-other_holder-clause-refused g c s e f l room =
     let few = c.if-as_slice-ge-DRAWS_LIMIT.false in
     let same = ap length c.as_slice.ensures in
-    draws_busy s c.args.sessions.now c.args.ranges.now c.args.books.now.ledger c.args.name.now c.args.object.now c.args.nr
+    draws_busy s c.args.sessions.now c.args.ranges.now c.args.books.now.ledger c.args.call.now.session.now c.args.call.now.object.now c.args.call.now.nr
     (record { own_sessions = e; own_ranges = f; own_ledger = l }) room c.in_ok-session.session.now c.in-Some.range.now c.present-interval.result
     c.in-Some-other_holder.holder
     c.in_ok-session.ensures.found (sym c.in-Some.ensures) c.present-interval.ensures (at_most _ (omega (arith, few, same))) (sym c.in-Some-other_holder.ensures)
@@ -46,7 +49,8 @@ returns-in-Some-other_holder-clause-refused g c s e f l room =
 pub next_number-number-requires : goal.next_number-number-requires
 next_number-number-requires g c =
     let i = c.present-interval.result in
-    let is = found_is c.args.sessions.now c.args.ranges.now c.args.books.now.ledger c.requires.drawn c.args.object.now c.args.nr c.in-Some.range.now
+    let is = found_is c.args.sessions.now c.args.ranges.now c.args.books.now.ledger c.requires.drawn c.args.call.now.object.now c.args.call.now.nr
+    c.in-Some.range.now
     (sym c.in-Some.ensures) in
     let same_level = ap (λ (j : Interval). j.level) c.present-interval.ensures in
     let within = is.within in
@@ -59,7 +63,7 @@ next_number-number-requires g c =
 pub level_for-requires : goal.level_for-requires
 level_for-requires g c =
     subst IsInterval (sym c.present-interval.ensures)
-    (found_is c.args.sessions.now c.args.ranges.now c.args.books.now.ledger c.requires.drawn c.args.object.now c.args.nr c.in-Some.range.now
+    (found_is c.args.sessions.now c.args.ranges.now c.args.books.now.ledger c.requires.drawn c.args.call.now.object.now c.args.call.now.nr c.in-Some.range.now
     (sym c.in-Some.ensures))
 
 pub returns-in_default-level_for-clause-refused : goal.returns-in_default-level_for-clause-refused
@@ -67,7 +71,7 @@ returns-in_default-level_for-clause-refused g c s e f l room =
     let few = c.if-as_slice-ge-DRAWS_LIMIT.false in
     let same = ap length c.as_slice.ensures in
     let i = c.present-interval.result in
-    draws_over s c.args.sessions.now c.args.ranges.now c.args.books.now.ledger c.args.name.now c.args.object.now c.args.nr
+    draws_over s c.args.sessions.now c.args.ranges.now c.args.books.now.ledger c.args.call.now.session.now c.args.call.now.object.now c.args.call.now.nr
     (record { own_sessions = e; own_ranges = f; own_ledger = l }) room c.in_ok-session.session.now c.in-Some.range.now i
     c.in_ok-session.ensures.found (sym c.in-Some.ensures) c.present-interval.ensures (at_most _ (omega (arith, few, same)))
     (sym c.in_default-other_holder.ensures)
@@ -75,7 +79,7 @@ returns-in_default-level_for-clause-refused g c s e f l room =
 
 pub returns-in_default-draws_with-clause-refused : goal.returns-in_default-draws_with-clause-refused
 returns-in_default-draws_with-clause-refused g c s e f l room =
-    draws_wanting s c.args.sessions.now c.args.ranges.now c.args.books.now.ledger c.args.name.now c.args.object.now c.args.nr
+    draws_wanting s c.args.sessions.now c.args.ranges.now c.args.books.now.ledger c.args.call.now.session.now c.args.call.now.object.now c.args.call.now.nr
     (record { own_sessions = e; own_ranges = f; own_ledger = l }) room c.in_ok-session.session.now c.in_ok-session.ensures.found
 
 pub returns-clause-draw : goal.returns-clause-draw
@@ -89,7 +93,7 @@ returns-clause-draw g c =
       chosen = sym c.in-Some.ensures;
       interval = c.present-interval.ensures;
       few = at_most _ (omega (arith, few, same));
-      free = none_mapped (λ (x : Session). x.name) (other_holder c.args.sessions.now c.args.name.now c.present-interval.result)
+      free = none_mapped (λ (x : Session). x.name) (other_holder c.args.sessions.now c.args.call.now.session.now c.present-interval.result)
           (sym c.in_default-other_holder.ensures);
       next = c.next_number-number.ensures;
       within = sym c.in-Some-level_for.ensures.none;

@@ -21,5 +21,5 @@ returns g c = λ calls start caller is.
       stands = down.stands calls ∙ ap is_up (sym doubt);
       kept = down.kept;
       file = down.file;
-      copy = down.copy;
+      replica = down.replica;
     }

@@ -1,7 +1,7 @@
 use Rattle.std.proofs.Common.{◌≡◌, ◌+◌, true, false, map, replicate, None, refl, sym, ap, ◌∙◌, subst}
 use Rattle.enq_base.specs.declared.condition.Condition.TheVariants as condition
 use Rattle.enq_base.specs.declared.refusal.Refusal.TheVariants as refusal
-use Rattle.enq_server.proofs.lemmas.Following.{keeps_none}
+use Rattle.enq_server.proofs.lemmas.Replicas.{keeps_none}
 use Rattle.enq_server.specs.Faults.{IsOpenFault}
 use Rattle.enq_server.specs.Server.{recovered}
 use Rattle.lock_entry.specs.Sound.{IsSound}
@@ -20,7 +20,7 @@ use Rattle.hall_model.specs.Step.{is_taken, stored_anew}
 use Rattle.hall_model.specs.declared.command.Command.TheVariants as command
 use Rattle.hall_model.specs.declared.command.Reply.TheVariants as reply
 use Rattle.hall_calls.specs.declared.remaking.Remade.TheVariants.{Done}
-use Rattle.hall_calls.proofs.following.EachCall.{any_link}
+use Rattle.hall_calls.proofs.replica.EachCall.{any_link}
 use Rattle.hall_calls.proofs.lemmas.GoodFiles.{ready_sound}
 use Rattle.hall_calls.proofs.restarting.MadeAnew.{found_stands, left_recovers, not_remade, remade_lists, remake_counts, remake_quiet, remakes, restarts_up, sessions_kept}
 use Rattle.hall_calls.proofs.restarting.OverRead.{found_sound, made_leaves, may_have_read, read_ledger, read_right, read_store, taken_same, usable_made}
@@ -30,7 +30,7 @@ use Rattle.hall_calls.proofs.remaking.remake.Goals as goal
 pub returns-in-Up : goal.returns-in-Up
 returns-in-Up g c =
     let keeper = c.args.books.now.keeper in
-    let copy = c.args.locks.now.copy in
+    let replica = c.args.locks.now.replica in
     record {
       act = λ s is own stored flight found caller limit free. restarts_up s c.args.basis.now.condition is c.in-Up.is free;
       sessions = refl;
@@ -44,11 +44,11 @@ returns-in-Up g c =
       left = c.requires.left;
       file = refl;
       cause = refl;
-      follower = any_link g.L.Link.applied g.L.Link.faults g.L.Link.refusals copy copy false
-          (keeps_none g.L.Link.applied g.L.Link.faults g.L.Link.refusals copy);
+      replica = any_link g.L.Link.applied g.L.Link.faults g.L.Link.refusals replica replica false
+          (keeps_none g.L.Link.applied g.L.Link.faults g.L.Link.refusals replica);
       detached = tt;
       untouched = refl;
-      good_file = λ t sound landing. refl;
+      good_file = λ t sound flight. refl;
       good_store = λ told. refl;
     }
 
@@ -61,7 +61,7 @@ pub returns-in-Err-clause-act : goal.returns-in-Err-clause-act
 returns-in-Err-clause-act g c = λ s is own stored flight found caller limit free.
     unread_acts g.K.Keeper.held g.K.Keeper.may_leave g.K.Keeper.faults c.args.basis.now.condition c.args.basis.now.failure.now c.args.books.now
     c.read_waiting.new.books
-    c.in-Err.remade c.in-Err.ensures.unread c.in_default.not-Up s is (record { stored = stored; pending = flight; found = found }) free
+    c.in-Err.remade c.in-Err.ensures.unread c.in_default.not-Up s is (record { stored = stored; in_flight = flight; found = found }) free
     c.args.sessions.now c.args.orders.now.items c.args.locks.now.table c.read_waiting.new.books.ledger (sym own)
 
 pub returns-in-Err-clause-sessions : goal.returns-in-Err-clause-sessions
@@ -119,7 +119,7 @@ returns-in-Err-clause-cause g c =
     c.in-Err.remade (g.D.Disk.faults c.args.locks.now.file.disk) c.in-Err.ensures.unread
 
 pub returns-in-Err-clause-good_file : goal.returns-in-Err-clause-good_file
-returns-in-Err-clause-good_file g c = λ t sound landing.
+returns-in-Err-clause-good_file g c = λ t sound flight.
     unread_sound g.K.Keeper.held g.K.Keeper.may_leave g.K.Keeper.faults c.args.basis.now.condition c.args.basis.now.failure.now c.args.books.now
     c.read_waiting.new.books
     c.in-Err.remade c.in-Err.ensures.unread
@@ -133,7 +133,7 @@ returns-in-Ok-restart-clause-act g c = λ s is own stored flight found caller li
     let reread = c.in-Ok.waiting.reread in
     let read = taken_in reread in
     let was = c.in-Ok.ensures.read in
-    let of_s : IsOf s old failure = record { stored = stored; pending = flight; found = found } in
+    let of_s : IsOf s old failure = record { stored = stored; in_flight = flight; found = found } in
     let right = read_right c.args.basis.now.condition old failure reread c.in_default.not-Up was c.requires.settled c.requires.unknown in
     let ledger : c.adopt.new.books.ledger ≡ ledger_read old reread = c.adopt.ensures.ledger ∙ ap (λ l. ledger_read l reread) c.read_waiting.ensures.ledger in
     let bereaved : c.bereave.new.self ≡ map (bereft_if s.failed_caller) s.sessions =
@@ -196,14 +196,14 @@ returns-in-Err-restart-clause-act g c = λ s is own stored flight found caller l
     let old = c.args.books.now.ledger in
     let reread = c.in-Ok.waiting.reread in
     let right = read_right c.args.basis.now.condition old failure reread c.in_default.not-Up c.in-Ok.ensures.read c.requires.settled c.requires.unknown in
-    subst (λ read. IsTelling s command.Restart false (record (doubted s (OfAdmin Restarts) read s.pending) { sessions = c.args.sessions.now })
+    subst (λ read. IsTelling s command.Restart false (record (doubted s (OfAdmin Restarts) read s.in_flight) { sessions = c.args.sessions.now })
     (reply.Refused c.remake_refusal.result))
     (sym c.taken_in.ensures)
     (sessions_kept s c.args.basis.now.condition is c.in_default.not-Up free (taken_in reread) c.args.sessions.now
     (reply.Refused c.remake_refusal.result) (sym own)
     (not_remade s c.args.basis.now.condition is c.in_default.not-Up free c.in-Err-restart.fault c.remake_refusal.result (taken_in reread)
     c.remake_refusal.ensures
-    (may_have_read s old failure (taken_in reread) (record { stored = stored; pending = flight; found = found }) right)))
+    (may_have_read s old failure (taken_in reread) (record { stored = stored; in_flight = flight; found = found }) right)))
 
 pub returns-in-Err-restart-clause-store : goal.returns-in-Err-restart-clause-store
 returns-in-Err-restart-clause-store g c =
@@ -244,7 +244,7 @@ returns-in-Err-restart-clause-cause g c =
     c.remake_refusal.ensures c.in-Err-restart.ensures.cause
 
 pub returns-in-Err-restart-clause-good_file : goal.returns-in-Err-restart-clause-good_file
-returns-in-Err-restart-clause-good_file g c = λ yes sound landing.
+returns-in-Err-restart-clause-good_file g c = λ yes sound flight.
     let failure = c.args.basis.now.failure.now in
     let old = c.args.books.now.ledger in
     let reread = c.in-Ok.waiting.reread in
@@ -258,5 +258,5 @@ returns-in-Err-restart-clause-good_file g c = λ yes sound landing.
     file c.requires.lists yes (g.D.Disk.reads file.disk) (g.met.D.Disk.reads_left file.disk yes) in
     let units = c.as_slice.ensures.value ∙ c.in-Ok.ensures.units ∙ ap open_locks (read_ledger c.args.basis.now.condition old failure reread was) in
     ready_sound (g.D.Disk.reads file.disk) (open_locks found) h.0 c.in-Err-restart.fault c.remake_refusal.result c.remake_refusal.ensures h.1 h.2
-    (found_sound (λ l. IsSound (open_entries l)) (is_taken read) old (flight_over old failure) sound landing)
+    (found_sound (λ l. IsSound (open_entries l)) (is_taken read) old (flight_over old failure) sound flight)
     (subst (λ us. IsOpenFault (g.D.Disk.reads file.disk) us c.in-Err-restart.fault) units (c.in-Err-restart.ensures.fault yes))

@@ -52,7 +52,7 @@ returns-in-Ok g c =
     let read = c.reread.ensures in
     let flight = flight_over old.ledger failure in
     let is = subst (λ change. IsSettled old.ledger change found.taken found.ledger) c.as_ref.ensures.value c.in-Ok.ensures.found in
-    let left = read_leaves held g.K.Keeper.is_open may_leave new g.met.K.Keeper.settled old.ledger found.ledger failure.pending found.taken
+    let left = read_leaves held g.K.Keeper.is_open may_leave new g.met.K.Keeper.settled old.ledger found.ledger failure.in_flight found.taken
     c.in-Ok.ensures.usable is in
     let taken = c.taken_up.ensures.taken in
     record {
@@ -62,8 +62,8 @@ returns-in-Ok g c =
       read = IfOk-weaker c.taken_up.result (λ w. IsTakenUp failure.found found w.units.items w.reread)
           (λ w. IsSomeAnd w.reread (IsFoundRight old.ledger failure))
           (λ w up. subst (λ o. IsSomeAnd o (IsFoundRight old.ledger failure)) (sym up.all) (record {
-            ledger = settled_anew old.ledger found.ledger failure.pending found.taken is;
-            flight = differs old.ledger found.ledger failure.pending found.taken is;
+            ledger = settled_anew old.ledger found.ledger failure.in_flight found.taken is;
+            flight = differs old.ledger found.ledger failure.in_flight found.taken is;
             known = up.known;
           })) taken;
       usable = IfOk-weaker c.taken_up.result (λ w. IsTakenUp failure.found found w.units.items w.reread) (λ w. IsUsableAs held g.K.Keeper.is_open new w.reread)

@@ -28,7 +28,7 @@ returns-in-Ok g c =
       limit = h.serves.limit;
       standing = h.serves.standing;
       file = h.file;
-      follower = h.serves.follower;
+      replica = h.serves.replica;
       lost = h.serves.lost;
       table = h.table;
       ledger = h.store.ledger;
@@ -54,7 +54,7 @@ returns-in-Err g c =
       standing = refl;
       file = refused_files g.D.Disk.tells g.D.Disk.reads g.D.Disk.may_leave g.D.Disk.faults ledger ledger file file r c.requires.filed (same_file file) refl
           (inl plain);
-      follower = still.follower;
+      replica = still.replica;
       lost = still.lost;
       table = tt;
       ledger = tt;

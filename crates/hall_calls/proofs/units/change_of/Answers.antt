@@ -29,7 +29,7 @@ pub returns : goal.returns
 returns g c = (
   omega (arith, c.if-effects_in-eq0.false, c.effects_in.ensures),
   c.in_ok-unit.ensures.unit
-      ∙ (λ i. unit_of (c.start-2.ensures i) c.args.locks.now.table.entries c.args.session.now c.args.parts.now (c.in_ok-numbers.ensures i)),
+      ∙ (λ i. unit_of (c.start-2.ensures i) c.args.locks.now.table.entries c.args.session.now c.args.call.now.parts.now (c.in_ok-numbers.ensures i)),
   c.from_vec-2.ensures ∙ c.in_ok-levels.ensures
       ∙ ap (settled_rows c.args.books.now.ledger.levels c.args.ranges.now) (c.as_slice.ensures.value ∙ c.in_ok-numbers.ensures),
   c.in_ok-unit.ensures.good,

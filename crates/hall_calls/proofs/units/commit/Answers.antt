@@ -24,7 +24,7 @@ pub pass_recorded-requires : goal.pass_recorded-requires
 pass_recorded-requires g c =
     let ledger = c.args.books.now.ledger in
     stock_room c.args.ranges.now ledger.levels (draws_in c.args.sessions.now)
-    (numbers_of ledger.units ledger.marks) c.args.stock.now c.requires.drawn c.requires.stock.reserved
+    (numbers_of ledger.units ledger.marks) c.args.call.now.stock.now c.requires.drawn c.requires.stock.reserved
 
 pub returns : goal.returns
 returns g c =
@@ -33,13 +33,13 @@ returns g c =
     let new = c.record_commit-written.new in
     record {
       act = λ s sessions ranges locks stored limit room.
-          subst (λ rs. IsWritten s (command.Commit c.args.name.now c.args.parts.now c.args.stock.now)
+          subst (λ rs. IsWritten s (command.Commit c.args.call.now.session.now c.args.call.now.parts.now c.args.call.now.stock.now)
           (record s { sessions = new.sessions; ranges = rs; locks = new.locks.table.entries; stored = new.books.ledger }) written)
           (sym c.pass_recorded.ensures) (h.act s sessions ranges locks stored limit room);
       limit = h.serves.limit;
       standing = h.serves.standing;
       file = h.file;
-      follower = h.serves.follower;
+      replica = h.serves.replica;
       lost = h.serves.lost;
       table = h.table;
       sessions = h.sessions;

@@ -21,7 +21,7 @@ returns-then-ends g c =
       serves = record {
         limit = limit_stays c.end_unit.result was.table left.table (freed_owner was.table.entries (Upd c.args.unit.now)) h.table h.kept;
         standing = h.standing;
-        follower = h.copy;
+        replica = h.replica;
         lost = h.lost;
       };
       file = frees_list g.D.Disk.tells g.D.Disk.reads g.D.Disk.may_leave g.D.Disk.faults c.args.ends c.args.unit.now was.file left.file c.end_unit.result

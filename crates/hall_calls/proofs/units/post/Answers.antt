@@ -1,12 +1,13 @@
 use Rattle.std.proofs.Common.{sym, ap, ◌∙◌, subst}
 use Rattle.enq_server.specs.Server.{Server}
+use Rattle.hall_model.specs.Calls.{post_of}
 use Rattle.hall_calls.specs.Marking.{orders_behind}
-use Rattle.hall_calls.specs.Written.{IsWritten, locks_posted, post_of}
+use Rattle.hall_calls.specs.Written.{IsWritten, locks_posted}
 use Rattle.hall_calls.proofs.MarkedUnits.{orders_stay}
 use Rattle.hall_calls.proofs.units.post.Goals as goal
 
 pub post_held-written-requires : goal.post_held-written-requires
-post_held-written-requires g c = record { usable = c.requires.usable; limited = c.requires.limited; part = c.requires.part; filed = c.requires.filed }
+post_held-written-requires g c = record { usable = c.requires.usable; limited = c.requires.limited; filed = c.requires.filed }
 
 pub end_order-requires : goal.end_order-requires
 end_order-requires g c = c.requires.places
@@ -19,20 +20,20 @@ returns g c =
     let after = c.post_held-written.new.books in
     record {
       act = λ s told orders locks stored limit none room.
-          subst (λ os. IsWritten s (post_of c.args.part c.args.worker)
-          (record s { orders = os; locks = locks_posted c.args.part s.locks left.table.entries; stored = after.ledger }) written)
-          (ap (λ os. orders_behind os c.args.worker written) orders ∙ sym c.end_order.ensures)
+          subst (λ os. IsWritten s (post_of c.args.call.part c.args.call.worker)
+          (record s { orders = os; locks = locks_posted c.args.call.part s.locks left.table.entries; stored = after.ledger }) written)
+          (ap (λ os. orders_behind os c.args.call.worker written) orders ∙ sym c.end_order.ensures)
           (h.act s told (orders ∙ sym c.as_slice.ensures.value) locks stored limit none room);
       limit = h.serves.limit;
       standing = h.serves.standing;
       file = h.file;
       unfiled = λ off. ap (λ (v : Server _ _). v.file) (h.second off);
-      unshipped = λ off. ap (λ (v : Server _ _). v.copy) (h.second off);
+      unshipped = λ off. ap (λ (v : Server _ _). v.replica) (h.second off);
       second = λ off. ap (λ (v : Server _ _). v.table.entries) (h.second off);
       table = h.table;
-      follower = h.serves.follower;
+      replica = h.serves.replica;
       lost = h.serves.lost;
-      orders = orders_stay written c.args.orders.now.items _ c.args.worker c.end_order.ensures;
+      orders = orders_stay written c.args.orders.now.items _ c.args.call.worker c.end_order.ensures;
       ledger = h.store.ledger;
       usable = h.store.usable;
       told = h.store.told;

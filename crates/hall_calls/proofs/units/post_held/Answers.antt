@@ -13,25 +13,26 @@ use Rattle.hall_calls.proofs.units.post_held.Goals as goal
 pub post_unit-requires : goal.post_unit-requires
 post_unit-requires g c =
     let ledger = c.args.books.now.ledger in
-    let can = can_be_posted (order_for c.args.part ledger c.args.orders.now c.args.worker) (nat_le c.args.max_marks (length ledger.marks)) c.args.max_marks
+    let can = can_be_posted (order_for c.args.call.part ledger c.args.orders.now c.args.call.worker)
+    (nat_le c.args.call.max_marks (length ledger.marks)) c.args.call.max_marks
     c.in-Ok.unit (sym c.to_post.ensures ∙ c.in-Ok.is) in
     record {
       usable = c.requires.usable;
       marks = below_limit _ _ can.1 c.requires.limited;
-      part = c.requires.part;
-      waits = (held_for c.args.part ledger (order_of c.args.orders.now c.args.worker) c.in-Ok.unit can.0).1;
+      waits = (held_for c.args.call.part ledger (order_of c.args.orders.now c.args.call.worker) c.in-Ok.unit can.0).1;
       filed = c.requires.filed;
     }
 
 pub returns-in-Ok : goal.returns-in-Ok
 returns-in-Ok g c =
     let ledger = c.args.books.now.ledger in
-    let can = can_be_posted (order_for c.args.part ledger c.args.orders.now c.args.worker) (nat_le c.args.max_marks (length ledger.marks)) c.args.max_marks
+    let can = can_be_posted (order_for c.args.call.part ledger c.args.orders.now c.args.call.worker)
+    (nat_le c.args.call.max_marks (length ledger.marks)) c.args.call.max_marks
     c.in-Ok.unit (sym c.to_post.ensures ∙ c.in-Ok.is) in
     record {
       act = λ s told orders locks stored limit none room.
-          c.post_unit.ensures.act s c.args.worker told locks stored none room
-          (ap (λ os. order_for c.args.part ledger os c.args.worker) orders ∙ can.0)
+          c.post_unit.ensures.act s c.args.call.worker told locks stored none room
+          (ap (λ os. order_for c.args.call.part ledger os c.args.call.worker) orders ∙ can.0)
           (ap (λ n. nat_le n (length ledger.marks)) limit ∙ can.1);
       serves = c.post_unit.ensures.serves;
       table = c.post_unit.ensures.table;
@@ -45,14 +46,14 @@ returns-in-Err g c =
     let ledger = c.args.books.now.ledger in
     let file = c.args.locks.now.file in
     let r = c.in-Err.refusal in
-    let full = nat_le c.args.max_marks (length ledger.marks) in
-    let order = order_for c.args.part ledger c.args.orders.now c.args.worker in
-    let why = not_posted order full c.args.max_marks r (sym c.to_post.ensures ∙ c.in-Err.is) in
-    let plain = not_posted_plainly order full c.args.max_marks r why in
+    let full = nat_le c.args.call.max_marks (length ledger.marks) in
+    let order = order_for c.args.call.part ledger c.args.orders.now c.args.call.worker in
+    let why = not_posted order full c.args.call.max_marks r (sym c.to_post.ensures ∙ c.in-Err.is) in
+    let plain = not_posted_plainly order full c.args.call.max_marks r why in
     record {
       act = λ s told orders locks stored limit none room.
-          posts_not c.args.part s s.orders c.args.locks.now.table.entries ledger c.args.max_marks c.args.worker r c.requires.part refl locks stored limit room
-          (subst (λ os. IsNotPosted (order_for c.args.part ledger os c.args.worker) full c.args.max_marks r) (sym orders) why);
+          posts_not c.args.call.part s s.orders c.args.locks.now.table.entries ledger c.args.call.max_marks c.args.call.worker r refl locks stored limit room
+          (subst (λ os. IsNotPosted (order_for c.args.call.part ledger os c.args.call.worker) full c.args.call.max_marks r) (sym orders) why);
       serves = serves_still g.L.Link.applied g.L.Link.faults g.L.Link.refusals c.args.locks.now;
       table = tt;
       second = λ off. refl;

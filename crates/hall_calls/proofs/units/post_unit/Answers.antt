@@ -1,5 +1,5 @@
 use Rattle.std.proofs.Common.{inr, refl, sym, ap, ◌∙◌, subst}
-use Rattle.std.specs.Prelude.{nat_eq, is_some}
+use Rattle.std.specs.Prelude.{is_some}
 use Rattle.enq_base.specs.declared.refusal.Refusal.TheVariants as refusal
 use Rattle.ledger_steps.specs.declared.step.Step.TheVariants.{Note}
 use Rattle.update_records.specs.Growing.{with_mark}
@@ -13,6 +13,7 @@ use Rattle.hall_calls.proofs.ending.OverStore.{ready_ends, unready_ends}
 use Rattle.hall_calls.proofs.verdicts.UnitCalls.{may_come, posts_unread, posts_wanting}
 use Rattle.std.specs.Prelude.{None}
 use Rattle.hall_calls.proofs.units.post_unit.Goals as goal
+use Rattle.ledger_steps.specs.Parts.{is_first}
 
 pub prepare-requires : goal.prepare-requires
 prepare-requires g c = record { usable = c.requires.usable; marks = c.requires.marks; waits = c.requires.waits }
@@ -27,8 +28,9 @@ note-requires g c =
       usable = c.in-Ok.ensures.usable;
       ready = c.in-Ok.ensures.ready;
       step = c.in-Ok.ensures.step ∙ ap (λ k. Note unit k) (sym c.kind_for.ensures);
-      ends = subst (λ (l : Ledger). EndsList (nat_eq part 1) l (with_mark l unit kind) unit) (sym c.in-Ok.ensures.ledger)
-          (posted_ends part c.requires.part c.args.books.now.ledger unit outcome kind c.requires.waits c.kind_for.ensures);
+      ends = subst (λ first. EndsList first c.prepare.new.books.ledger (with_mark c.prepare.new.books.ledger unit kind) unit) (sym c.is_first.ensures)
+          (subst (λ (l : Ledger). EndsList (is_first part) l (with_mark l unit kind) unit) (sym c.in-Ok.ensures.ledger)
+          (posted_ends part c.args.books.now.ledger unit outcome kind c.requires.waits c.kind_for.ensures));
       answer = subst (λ r. IsUnrefused (Answered r)) (sym c.posted.ensures) (posted_unrefused part unit outcome);
       filed = subst (λ l. HasOpenLists g.D.Disk.tells g.D.Disk.reads g.D.Disk.may_leave l c.args.locks.now.file) (sym c.in-Ok.ensures.ledger) c.requires.filed;
     }
@@ -39,7 +41,7 @@ returns-in-Err-NoMemory g c =
     let ledger = c.args.books.now.ledger in
     record {
       act = λ s worker told locks stored none room found space.
-          posts_wanting c.args.part s s.orders c.args.locks.now.table.entries ledger c.prepare.new.books.ledger worker c.args.unit c.requires.part refl locks
+          posts_wanting c.args.part s s.orders c.args.locks.now.table.entries ledger c.prepare.new.books.ledger worker c.args.unit refl locks
           stored c.prepare.ensures.ledger room found;
       serves = serves_still g.L.Link.applied g.L.Link.faults g.L.Link.refusals c.args.locks.now;
       table = tt;
@@ -56,7 +58,7 @@ returns-in-Err-Failed g c =
     let ledger = c.args.books.now.ledger in
     record {
       act = λ s worker told locks stored none room found space.
-          posts_unread c.args.part s s.orders ledger s.mark_limit worker c.args.unit c.requires.part refl stored refl none room found space;
+          posts_unread c.args.part s s.orders ledger s.mark_limit worker c.args.unit refl stored refl none room found space;
       serves = serves_still g.L.Link.applied g.L.Link.faults g.L.Link.refusals c.args.locks.now;
       table = refl;
       second = λ off. refl;
@@ -79,14 +81,15 @@ returns g c =
     let left = c.note.new.locks.table.entries in
     record {
       act = λ s worker told locks stored none room found space.
-          posts_as part s (is_some held) entries left ledger after worker unit outcome c.kind_for.result c.posted.result c.requires.part told locks stored room
+          posts_as part s (is_some held) entries left ledger after worker unit outcome c.kind_for.result c.posted.result told locks stored room
           found space (may_come part _ held ledger unit outcome refl c.in-Ok.ensures.outcome c.in-Ok.ensures.possible) c.kind_for.ensures c.posted.ensures
           c.note.result
-          (subst (λ (l : Ledger). IsNoted l after entries left (nat_eq part 1) unit c.kind_for.result c.posted.result c.note.result) c.in-Ok.ensures.ledger
-          c.note.ensures.outcome);
+          (subst (λ first. IsNoted ledger after entries left first unit c.kind_for.result c.posted.result c.note.result) c.is_first.ensures
+          (subst (λ (l : Ledger). IsNoted l after entries left c.is_first.result unit c.kind_for.result c.posted.result c.note.result) c.in-Ok.ensures.ledger
+          c.note.ensures.outcome));
       serves = c.note.ensures.serves;
       table = c.note.ensures.table;
-      second = c.note.ensures.apart;
+      second = λ off. c.note.ensures.apart (c.is_first.ensures ∙ off);
       file = c.note.ensures.file;
       store = ready_ends g.K.Keeper.held g.K.Keeper.is_open g.K.Keeper.may_leave g.K.Keeper.faults c.args.books.now c.prepare.new.books c.note.new.books
           c.note.result c.in-Ok.ensures.unmoved c.note.ensures.store;

@@ -21,8 +21,9 @@ pub change_of-requires : goal.change_of-requires
 change_of-requires g c =
     let x = c.in-Ok.session.now in
     record {
-      fit = rows_fit c.args.sessions.now c.args.name.now x c.in-Ok.ensures.session.found c.args.books.now.ledger c.args.ranges.now c.args.stock.now
-          c.requires.drawn c.requires.stock (x.draws ++ c.args.stock.now) refl;
+      fit = rows_fit c.args.sessions.now c.args.call.now.session.now x c.in-Ok.ensures.session.found c.args.books.now.ledger c.args.ranges.now
+          c.args.call.now.stock.now
+          c.requires.drawn c.requires.stock (x.draws ++ c.args.call.now.stock.now) refl;
     }
 
 pub record_numbers-requires : goal.record_numbers-requires
@@ -31,15 +32,18 @@ record_numbers-requires g c =
     let x = c.in-Ok.session.now in
     let at = c.in-Ok.ensures.session in
     let drawn = c.in-Numbers.drawn in
-    let h = subst (IsChange ledger c.args.ranges.now c.args.locks.now.table x c.args.parts.now c.args.stock.now) c.in-Numbers.is c.in-Ok-change_of.ensures in
+    let h = subst (IsChange ledger c.args.ranges.now c.args.locks.now.table x c.args.call.now.parts.now c.args.call.now.stock.now) c.in-Numbers.is
+    c.in-Ok-change_of.ensures in
     let many = ap length h.2 in
     record {
       usable = c.requires.usable;
       marks = below_limit _ _ at.room c.requires.limited;
-      drawing = may_draw c.args.sessions.now c.args.name.now x at.found ledger c.args.ranges.now c.args.stock.now c.requires.drawn c.requires.stock
+      drawing = may_draw c.args.sessions.now c.args.call.now.session.now x at.found ledger c.args.ranges.now c.args.call.now.stock.now c.requires.drawn
+          c.requires.stock
           ledger.start drawn.unit drawn.numbers refl h.1 h.2 c.requires.started c.requires.fresh
           (omega (arith, many, some_alone _ _ _ _ _ _ _ at h.0)) (omega (arith, many, at.few_numbers));
-      store = draws_stored c.args.sessions.now c.args.name.now x at.found ledger c.args.ranges.now c.args.stock.now c.requires.drawn c.requires.stock
+      store = draws_stored c.args.sessions.now c.args.call.now.session.now x at.found ledger c.args.ranges.now c.args.call.now.stock.now c.requires.drawn
+          c.requires.stock
           drawn.levels drawn.numbers h.3 h.2;
     }
 
@@ -50,20 +54,23 @@ record_unit-requires g c =
     let x = c.in-Ok.session.now in
     let at = c.in-Ok.ensures.session in
     let made = c.in-Unit.made in
-    let nums = x.draws ++ c.args.stock.now in
-    let h = subst (IsChange ledger c.args.ranges.now table x c.args.parts.now c.args.stock.now) c.in-Unit.is c.in-Ok-change_of.ensures in
+    let nums = x.draws ++ c.args.call.now.stock.now in
+    let h = subst (IsChange ledger c.args.ranges.now table x c.args.call.now.parts.now c.args.call.now.stock.now) c.in-Unit.is c.in-Ok-change_of.ensures in
     record {
       usable = c.requires.usable;
       marks = below_limit _ _ at.room c.requires.limited;
-      fresh = may_record ledger c.args.sessions.now c.args.name.now x c.args.parts.now nums ledger.start table made.unit refl h.1
-          (draws_digits c.args.sessions.now c.args.name.now x at.found ledger c.args.ranges.now c.args.stock.now c.requires.drawn c.requires.stock nums refl)
+      fresh = may_record ledger c.args.sessions.now c.args.call.now.session.now x c.args.call.now.parts.now nums ledger.start table made.unit refl h.1
+          (draws_digits c.args.sessions.now c.args.call.now.session.now x at.found ledger c.args.ranges.now c.args.call.now.stock.now c.requires.drawn
+          c.requires.stock nums refl)
           at.few_numbers at.found c.requires.fresh h.3 c.requires.started h.0 at.few_effects;
-      store = draws_stored c.args.sessions.now c.args.name.now x at.found ledger c.args.ranges.now c.args.stock.now c.requires.drawn c.requires.stock
+      store = draws_stored c.args.sessions.now c.args.call.now.session.now x at.found ledger c.args.ranges.now c.args.call.now.stock.now c.requires.drawn
+          c.requires.stock
           made.levels made.unit.numbers h.2 (ap (λ (u : UnitOfWork). u.numbers) h.1);
       young = c.requires.young;
       commits = subst (λ (u : UnitOfWork). IsOfCommit ledger u table.entries) (sym h.1)
-          (of_session ledger x table.entries c.args.parts.now nums
-          (found_in (IsAhead ledger) (is_called c.args.name.now) c.args.sessions.now x at.found c.requires.fresh x.luw (omega arith)) c.requires.marked);
+          (of_session ledger x table.entries c.args.call.now.parts.now nums
+          (found_in (IsAhead ledger) (is_called c.args.call.now.session.now) c.args.sessions.now x at.found c.requires.fresh x.luw (omega arith))
+          c.requires.marked);
       filed = c.requires.filed;
     }
 
@@ -88,8 +95,9 @@ returns-in_default g c =
     let file = c.args.locks.now.file in
     record {
       act = λ s sessions ranges locks stored limit room.
-          commits_wanting s c.args.sessions.now c.args.ranges.now c.args.locks.now.table.entries ledger c.args.max_marks c.args.name.now c.in-Ok.session.now
-          c.args.parts.now c.args.stock.now
+          commits_wanting s c.args.sessions.now c.args.ranges.now c.args.locks.now.table.entries ledger c.args.call.now.max_marks c.args.call.now.session.now
+          c.in-Ok.session.now
+          c.args.call.now.parts.now c.args.call.now.stock.now
           (record {
             own_sessions = sessions;
             own_ranges = ranges;
@@ -115,13 +123,15 @@ returns-in-Numbers g c =
     let x = c.in-Ok.session.now in
     let at = c.in-Ok.ensures.session in
     let drawn = c.in-Numbers.drawn in
-    let h = subst (IsChange ledger c.args.ranges.now c.args.locks.now.table x c.args.parts.now c.args.stock.now) c.in-Numbers.is c.in-Ok-change_of.ensures in
+    let h = subst (IsChange ledger c.args.ranges.now c.args.locks.now.table x c.args.call.now.parts.now c.args.call.now.stock.now) c.in-Numbers.is
+    c.in-Ok-change_of.ensures in
     let w = c.record_numbers.result in
     let done = c.record_numbers.ensures in
     record {
       act = λ s sessions ranges locks stored limit room.
-          commits_alone s c.args.sessions.now c.args.ranges.now c.args.locks.now.table.entries ledger c.args.max_marks c.args.name.now x c.args.parts.now
-          c.args.stock.now
+          commits_alone s c.args.sessions.now c.args.ranges.now c.args.locks.now.table.entries ledger c.args.call.now.max_marks c.args.call.now.session.now x
+          c.args.call.now.parts.now
+          c.args.call.now.stock.now
           (record {
             own_sessions = sessions;
             own_ranges = ranges;
@@ -134,7 +144,8 @@ returns-in-Numbers g c =
           at drawn.unit drawn.numbers drawn.levels h.0 h.1 h.2 h.3 c.record_numbers.new.sessions c.record_numbers.new.books.ledger w done.outcome;
       serves = serves_still g.L.Link.applied g.L.Link.faults g.L.Link.refusals c.args.locks.now;
       file = numbers_files g.D.Disk.tells g.D.Disk.reads g.D.Disk.may_leave g.D.Disk.faults c.args.sessions.now c.record_numbers.new.sessions ledger
-          c.record_numbers.new.books.ledger c.args.name.now drawn.unit drawn.numbers drawn.levels c.args.locks.now.file w c.requires.filed done.store.ledger
+          c.record_numbers.new.books.ledger c.args.call.now.session.now drawn.unit drawn.numbers drawn.levels c.args.locks.now.file w c.requires.filed
+          done.store.ledger
           done.outcome;
       table = also_failed _ w refl;
       sessions = done.sessions;
@@ -147,13 +158,15 @@ returns-in-Unit g c =
     let x = c.in-Ok.session.now in
     let at = c.in-Ok.ensures.session in
     let made = c.in-Unit.made in
-    let h = subst (IsChange ledger c.args.ranges.now c.args.locks.now.table x c.args.parts.now c.args.stock.now) c.in-Unit.is c.in-Ok-change_of.ensures in
+    let h = subst (IsChange ledger c.args.ranges.now c.args.locks.now.table x c.args.call.now.parts.now c.args.call.now.stock.now) c.in-Unit.is
+    c.in-Ok-change_of.ensures in
     let w = c.record_unit.result in
     let done = c.record_unit.ensures in
     record {
       act = λ s sessions ranges locks stored limit room.
-          commits_unit s c.args.sessions.now c.args.ranges.now c.args.locks.now.table.entries ledger c.args.max_marks c.args.name.now x c.args.parts.now
-          c.args.stock.now
+          commits_unit s c.args.sessions.now c.args.ranges.now c.args.locks.now.table.entries ledger c.args.call.now.max_marks c.args.call.now.session.now x
+          c.args.call.now.parts.now
+          c.args.call.now.stock.now
           (record {
             own_sessions = sessions;
             own_ranges = ranges;

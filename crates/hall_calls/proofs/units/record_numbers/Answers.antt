@@ -5,7 +5,7 @@ use Rattle.update_records.specs.Growing.{with_mark}
 use Rattle.update_records.specs.declared.records.MarkKind.TheVariants.{Num}
 use Rattle.hall_model.specs.declared.command.Reply.TheVariants as reply
 use Rattle.hall_calls.proofs.CommittedChanges.{wanting_ends}
-use Rattle.hall_calls.proofs.verdicts.Recording.{landed_numbers}
+use Rattle.hall_calls.proofs.verdicts.Recording.{numbers_in_flight}
 use Rattle.hall_calls.proofs.ending.OverStore.{done_ends, failed_ends}
 use Rattle.hall_calls.proofs.units.record_numbers.Goals as goal
 
@@ -46,6 +46,6 @@ returns-in-Err-Failed g c =
       store = failed_ends g.K.Keeper.held g.K.Keeper.is_open g.K.Keeper.may_leave g.K.Keeper.faults c.args.books.now c.write_numbers.new.books
           (Draw drawn.unit numbers.result.now levels.result.now) (Draw drawn.unit drawn.numbers drawn.levels)
           (rw c.in-Err-Failed.field-0-is at c.in-Err-Failed.ensures)
-          (landed_numbers c.args.books.now.ledger drawn.unit numbers.result.now drawn.numbers levels.result.now drawn.levels (sym numbers.ensures)
+          (numbers_in_flight c.args.books.now.ledger drawn.unit numbers.result.now drawn.numbers levels.result.now drawn.levels (sym numbers.ensures)
           (sym levels.ensures));
     }

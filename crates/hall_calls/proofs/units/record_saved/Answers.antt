@@ -16,7 +16,7 @@ write-requires g c = record { usable = c.requires.usable; ready = c.requires.rea
 
 pub returns-in-Ok : goal.returns-in-Ok
 returns-in-Ok g c =
-    let made = c.args.made in
+    let made = c.args.saved.made in
     let next = with_intervals made.levels (with_unit c.args.books.now.ledger made.unit) in
     let done = c.in-Ok.ensures.tried.done ∙ ap (after_step c.args.books.now.ledger) c.requires.step in
     record {
@@ -24,7 +24,7 @@ returns-in-Ok g c =
       serves = record {
         limit = ap (λ (t : Table). t.limit) c.flag.ensures.after;
         standing = c.flag.ensures.standing;
-        follower = c.flag.ensures.copy;
+        replica = c.flag.ensures.replica;
         lost = c.flag.ensures.lost;
       };
       file = answered_files g.D.Disk.tells g.D.Disk.reads g.D.Disk.may_leave g.D.Disk.faults c.write.new.books.ledger c.args.locks.now.file
@@ -36,13 +36,13 @@ returns-in-Ok g c =
       table = tt;
       sessions = tt;
       store = done_ends g.K.Keeper.held g.K.Keeper.is_open g.K.Keeper.may_leave g.K.Keeper.faults g.met.K.Keeper.settled c.args.books.now c.write.new.books
-          c.args.prepared.step c.in-Ok.ensures.tried (reply.Unit made.unit.key) (λ n m same. same) tt;
+          c.args.saved.prepared.step c.in-Ok.ensures.tried (reply.Unit made.unit.key) (λ n m same. same) tt;
     }
 
 pub returns-in-Err : goal.returns-in-Err
 returns-in-Err g c =
     let ledger = c.args.books.now.ledger in
-    let made = c.args.made in
+    let made = c.args.saved.made in
     record {
       outcome = (refl, refl);
       serves = serves_still g.L.Link.applied g.L.Link.faults g.L.Link.refusals c.args.locks.now;
@@ -54,6 +54,7 @@ returns-in-Err g c =
       answered = tt;
       table = refl;
       sessions = refl;
-      store = failed_ends g.K.Keeper.held g.K.Keeper.is_open g.K.Keeper.may_leave g.K.Keeper.faults c.args.books.now c.write.new.books c.args.prepared.step
+      store = failed_ends g.K.Keeper.held g.K.Keeper.is_open g.K.Keeper.may_leave g.K.Keeper.faults c.args.books.now c.write.new.books
+          c.args.saved.prepared.step
           (Record made.unit made.levels) (rw c.in-Err.ensures.failed at c.in-Err.ensures.tried) (ap (after_step ledger) c.requires.step);
     }

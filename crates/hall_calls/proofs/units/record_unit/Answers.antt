@@ -50,7 +50,7 @@ returns-in-Ok g c =
           c.args.name.now c.args.made.unit c.args.made.levels w) list.table
           (subst (λ l. RecordsUnit c.args.sessions.now new.sessions mid.table.entries new.locks.table.entries l new.books.ledger c.args.name.now
           c.args.made.unit c.args.made.levels w) same.ledger h.outcome);
-      serves = serves_behind g.L.Link.applied g.L.Link.faults g.L.Link.refusals was mid new.locks list.stands list.table list.copy h.serves;
+      serves = serves_behind g.L.Link.applied g.L.Link.faults g.L.Link.refusals was mid new.locks list.stands list.table list.replica h.serves;
       file = before_files g.D.Disk.tells g.D.Disk.reads g.D.Disk.may_leave g.D.Disk.faults new.books.ledger was.file mid.file new.locks.file w h.answered
           list.quiet h.file;
       table = subst (λ t. OnFailure w (new.locks.table ≡ t)) list.table h.table;
@@ -72,7 +72,7 @@ returns-in-Err g c =
           c.args.made.levels) (sym c.unsaved.ensures)
           (unsaved_records c.args.sessions.now was.table.entries mid.table.entries ledger now c.args.name.now c.args.made.unit c.args.made.levels f
           (ap (λ (t : Table). t.entries) list.table) same.ledger list.needed);
-      serves = serves_behind g.L.Link.applied g.L.Link.faults g.L.Link.refusals was mid mid list.stands list.table list.copy
+      serves = serves_behind g.L.Link.applied g.L.Link.faults g.L.Link.refusals was mid mid list.stands list.table list.replica
           (serves_still g.L.Link.applied g.L.Link.faults g.L.Link.refusals mid);
       file = subst (FilesAs g.D.Disk.tells g.D.Disk.reads g.D.Disk.may_leave g.D.Disk.faults now was.file mid.file) (sym c.unsaved.ensures)
           (subst (λ l. FilesAs g.D.Disk.tells g.D.Disk.reads g.D.Disk.may_leave g.D.Disk.faults l was.file mid.file (unsaved f)) (sym same.ledger) list.ends);

@@ -54,5 +54,5 @@ returns g c =
             some = h.some;
             cause = h.cause;
           }));
-      serves = record { limit = h.limit; standing = h.standing ∙ sym c.requires.stands; follower = h.copy; lost = h.lost };
+      serves = record { limit = h.limit; standing = h.standing ∙ sym c.requires.stands; replica = h.replica; lost = h.lost };
     }

@@ -21,7 +21,7 @@ returns-in-Err g c =
       standing = refl;
       file = refused_files g.D.Disk.tells g.D.Disk.reads g.D.Disk.may_leave g.D.Disk.faults ledger ledger file file r c.requires.filed (same_file file) refl
           (inl plain);
-      follower = still.follower;
+      replica = still.replica;
       lost = still.lost;
       table = tt;
       ledger = tt;
@@ -41,8 +41,8 @@ returns-in-Ok-Bad-clause-standing g c = c.reopen.ensures.serves.standing
 pub returns-in-Ok-Bad-clause-file : goal.returns-in-Ok-Bad-clause-file
 returns-in-Ok-Bad-clause-file g c = c.reopen.ensures.file
 
-pub returns-in-Ok-Bad-clause-follower : goal.returns-in-Ok-Bad-clause-follower
-returns-in-Ok-Bad-clause-follower g c = c.reopen.ensures.serves.follower
+pub returns-in-Ok-Bad-clause-replica : goal.returns-in-Ok-Bad-clause-replica
+returns-in-Ok-Bad-clause-replica g c = c.reopen.ensures.serves.replica
 
 pub returns-in-Ok-Bad-clause-lost : goal.returns-in-Ok-Bad-clause-lost
 returns-in-Ok-Bad-clause-lost g c = c.reopen.ensures.serves.lost
@@ -77,8 +77,8 @@ returns-in-Ok-clause-standing g c = refl
 pub returns-in-Ok-clause-file : goal.returns-in-Ok-clause-file
 returns-in-Ok-clause-file g c = c.repost.ensures.file
 
-pub returns-in-Ok-clause-follower : goal.returns-in-Ok-clause-follower
-returns-in-Ok-clause-follower g c = (serves_still g.L.Link.applied g.L.Link.faults g.L.Link.refusals c.args.locks.now).follower
+pub returns-in-Ok-clause-replica : goal.returns-in-Ok-clause-replica
+returns-in-Ok-clause-replica g c = (serves_still g.L.Link.applied g.L.Link.faults g.L.Link.refusals c.args.locks.now).replica
 
 pub returns-in-Ok-clause-lost : goal.returns-in-Ok-clause-lost
 returns-in-Ok-clause-lost g c = (serves_still g.L.Link.applied g.L.Link.faults g.L.Link.refusals c.args.locks.now).lost

@@ -28,7 +28,7 @@ returns-in_default-clause-list g c =
       needed = λ failed. wanted_not_failed _ failed;
       stands = refl;
       table = refl;
-      copy = refl;
+      replica = refl;
     }
 
 pub returns-in-Ok-save-clause-list : goal.returns-in-Ok-save-clause-list
@@ -44,7 +44,7 @@ returns-in-Ok-save-clause-list g c =
       needed = tt;
       stands = c.save.ensures.standing;
       table = c.save.ensures.table;
-      copy = c.save.ensures.copy;
+      replica = c.save.ensures.replica;
     }
 
 pub returns-in-Err-clause-list : goal.returns-in-Err-clause-list
@@ -61,5 +61,5 @@ returns-in-Err-clause-list g c =
       needed = λ e. h.some (ap Err e);
       stands = c.save.ensures.standing;
       table = c.save.ensures.table;
-      copy = c.save.ensures.copy;
+      replica = c.save.ensures.replica;
     }

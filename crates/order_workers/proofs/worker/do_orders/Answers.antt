@@ -1,6 +1,6 @@
 use Rattle.std.proofs.Common.{ap}
 use Rattle.order_workers.specs.Orders.{other}
-use Rattle.order_workers.specs.declared.worker.Part.TheVariants.{V1, V2}
+use Rattle.ledger_steps.specs.declared.part.Part.TheVariants.{V1, V2}
 use Rattle.order_workers.proofs.Orders.{gone_done, gone_idle, works_rested, works_stopped}
 use Rattle.order_workers.proofs.worker.do_orders.Goals as goal
 

@@ -1,6 +1,6 @@
 use Rattle.std.proofs.Common.{◌≡◌, ◌-◌}
 use Rattle.std.specs.Prelude.{true, is_some, IsTrue}
-use Rattle.enq_server.specs.Following.{IsLater}
+use Rattle.enq_server.specs.Replica.{IsLater}
 use Rattle.script_runner.specs.Faults.{NoneUnsound, NoneUnsoundReplica, NoneUnsoundStore, TellsNoFault}
 use Rattle.script_runner.specs.Replay.{seen}
 use Rattle.script_runner.specs.Replicas.{GoesOnLinked, link_counts}
@@ -17,14 +17,14 @@ invariant-lines g l =
     (g.D.Disk.faults l.hall.file.disk))
     l.reader
     × (is_some (g.K.Keeper.held l.hall.keeper) ≡ is_some (g.K.Keeper.held l.initial.hall.keeper))
-    × (is_some (g.L.Link.applied l.initial.hall.follower.link) ≡ true → IsTrue g.D.Disk.tells → NoneUnsound l.initial.hall.state.past
+    × (is_some (g.L.Link.applied l.initial.hall.replica.link) ≡ true → IsTrue g.D.Disk.tells → NoneUnsound l.initial.hall.state.past
     → NoneUnsound l.hall.state.past)
     × (is_some (g.K.Keeper.held l.initial.hall.keeper) ≡ true → NoneUnsoundStore l.initial.hall.state.past → NoneUnsoundStore l.hall.state.past)
-    × IsLater g.L.Link.applied g.L.Link.faults g.L.Link.refusals l.initial.hall.follower l.hall.follower
-    × TellsNoFault (g.L.Link.faults l.initial.hall.follower.link) (g.L.Link.faults l.hall.follower.link) l.initial.hall.state.past l.hall.state.past
-    × (is_some (g.L.Link.applied l.initial.hall.follower.link) ≡ true → NoneUnsoundReplica l.initial.hall.state.past → NoneUnsoundReplica l.hall.state.past)
-    × GoesOnLinked l.initial.hall.state l.hall.state (link_counts g.L.Link.faults g.L.Link.refusals l.initial.hall.follower.link)
-    (link_counts g.L.Link.faults g.L.Link.refusals l.hall.follower.link)
+    × IsLater g.L.Link.applied g.L.Link.faults g.L.Link.refusals l.initial.hall.replica l.hall.replica
+    × TellsNoFault (g.L.Link.faults l.initial.hall.replica.link) (g.L.Link.faults l.hall.replica.link) l.initial.hall.state.past l.hall.state.past
+    × (is_some (g.L.Link.applied l.initial.hall.replica.link) ≡ true → NoneUnsoundReplica l.initial.hall.state.past → NoneUnsoundReplica l.hall.state.past)
+    × GoesOnLinked l.initial.hall.state l.hall.state (link_counts g.L.Link.faults g.L.Link.refusals l.initial.hall.replica.link)
+    (link_counts g.L.Link.faults g.L.Link.refusals l.hall.replica.link)
 
 abbrev pub decreases-lines : goal.decreases-lines
 decreases-lines g l = 200000 - l.reader.number

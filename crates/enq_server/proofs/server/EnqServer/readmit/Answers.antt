@@ -9,7 +9,7 @@ use Rattle.lock_entry.specs.Names.{is_of}
 use Rattle.enq_base.specs.Owners.{same_unit}
 use Rattle.enq_server.specs.Faults.{IsRefusal}
 use Rattle.enq_server.proofs.Readmitted.{failed_cause, keeps_over, keeps_same, lost_over, lost_same, not_failed, refused_as, refused_quietly}
-use Rattle.enq_server.proofs.lemmas.Following.{keeps_none}
+use Rattle.enq_server.proofs.lemmas.Replicas.{keeps_none}
 use Rattle.enq_server.proofs.server.EnqServer.readmit.Goals as goal
 
 -- ---- what the steps require
@@ -31,11 +31,11 @@ pub returns-in_default-clause-images : goal.returns-in_default-clause-images
 returns-in_default-clause-images g c = λ t l ready bytes may.
     inl (subst (λ b. Stands b l) (sym (ready.at_rest.durable bytes may)) ready.stands)
 
-pub returns-in_default-clause-copy : goal.returns-in_default-clause-copy
-returns-in_default-clause-copy g c = keeps_none g.L.Link.applied g.L.Link.faults g.L.Link.refusals c.args.self.now.copy
+pub returns-in_default-clause-replica : goal.returns-in_default-clause-replica
+returns-in_default-clause-replica g c = keeps_none g.L.Link.applied g.L.Link.faults g.L.Link.refusals c.args.self.now.replica
 
 pub returns-in_default-clause-lost : goal.returns-in_default-clause-lost
-returns-in_default-clause-lost g c = lost_same c.args.self.now.copy c.args.self.now.copy c.args.self.now.table c.args.self.now.table refl
+returns-in_default-clause-lost g c = lost_same c.args.self.now.replica c.args.self.now.replica c.args.self.now.table c.args.self.now.table refl
 
 -- ---- no memory for the list
 
@@ -50,13 +50,13 @@ returns-in_default-ready_list-clause-untouched g c = inr c.ready_list.ensures.fi
 pub returns-in_default-ready_list-clause-cause : goal.returns-in_default-ready_list-clause-cause
 returns-in_default-ready_list-clause-cause g c = ap g.D.Disk.faults c.ready_list.ensures.file.disk
 
-pub returns-in_default-ready_list-clause-copy : goal.returns-in_default-ready_list-clause-copy
-returns-in_default-ready_list-clause-copy g c =
-    keeps_same g.L.Link.applied g.L.Link.faults g.L.Link.refusals c.args.self.now.copy c.ready_list.new.self.copy c.ready_list.ensures.copy
+pub returns-in_default-ready_list-clause-replica : goal.returns-in_default-ready_list-clause-replica
+returns-in_default-ready_list-clause-replica g c =
+    keeps_same g.L.Link.applied g.L.Link.faults g.L.Link.refusals c.args.self.now.replica c.ready_list.new.self.replica c.ready_list.ensures.replica
 
 pub returns-in_default-ready_list-clause-lost : goal.returns-in_default-ready_list-clause-lost
 returns-in_default-ready_list-clause-lost g c =
-    lost_same c.args.self.now.copy c.ready_list.new.self.copy c.args.self.now.table c.ready_list.new.self.table c.ready_list.ensures.copy
+    lost_same c.args.self.now.replica c.ready_list.new.self.replica c.args.self.now.table c.ready_list.new.self.table c.ready_list.ensures.replica
 
 -- ---- they aren't granted
 
@@ -79,7 +79,7 @@ pub returns-in-Err-clause-untouched : goal.returns-in-Err-clause-untouched
 returns-in-Err-clause-untouched g c = inr (subst (IsSame c.args.self.now.file) (sym c.grant_again.ensures.file) c.ready_list.ensures.file)
 
 pub returns-in-Err-clause-unshipped : goal.returns-in-Err-clause-unshipped
-returns-in-Err-clause-unshipped g c = inr (c.in-Err.ensures.unshipped ∙ c.ready_list.ensures.copy)
+returns-in-Err-clause-unshipped g c = inr (c.in-Err.ensures.unshipped ∙ c.ready_list.ensures.replica)
 
 pub returns-in-Err-clause-failed : goal.returns-in-Err-clause-failed
 returns-in-Err-clause-failed g c =
@@ -95,15 +95,15 @@ returns-in-Err-clause-cause g c =
     refused_quietly (readmitted c.ready_list.new.self.table c.args.asker.now c.args.entries.now) (g.D.Disk.faults c.args.self.now.file.disk)
     (g.D.Disk.faults c.grant_again.new.self.file.disk) c.in-Err.fault same c.in-Err.ensures.refused
 
-pub returns-in-Err-clause-copy : goal.returns-in-Err-clause-copy
-returns-in-Err-clause-copy g c =
-    keeps_same g.L.Link.applied g.L.Link.faults g.L.Link.refusals c.args.self.now.copy c.grant_again.new.self.copy
-    (c.in-Err.ensures.unshipped ∙ c.ready_list.ensures.copy)
+pub returns-in-Err-clause-replica : goal.returns-in-Err-clause-replica
+returns-in-Err-clause-replica g c =
+    keeps_same g.L.Link.applied g.L.Link.faults g.L.Link.refusals c.args.self.now.replica c.grant_again.new.self.replica
+    (c.in-Err.ensures.unshipped ∙ c.ready_list.ensures.replica)
 
 pub returns-in-Err-clause-lost : goal.returns-in-Err-clause-lost
 returns-in-Err-clause-lost g c =
-    lost_same c.args.self.now.copy c.grant_again.new.self.copy c.args.self.now.table c.grant_again.new.self.table
-    (c.in-Err.ensures.unshipped ∙ c.ready_list.ensures.copy)
+    lost_same c.args.self.now.replica c.grant_again.new.self.replica c.args.self.now.table c.grant_again.new.self.table
+    (c.in-Err.ensures.unshipped ∙ c.ready_list.ensures.replica)
 
 -- ---- the list isn't written
 
@@ -130,15 +130,15 @@ returns-in-Err-write_list-clause-cause g c =
     failed_cause (g.D.Disk.faults c.args.self.now.file.disk) (g.D.Disk.faults c.grant_again.new.self.file.disk)
     (g.D.Disk.faults c.write_list.new.self.file.disk) same cause.later cause.failed
 
-pub returns-in-Err-write_list-clause-copy : goal.returns-in-Err-write_list-clause-copy
-returns-in-Err-write_list-clause-copy g c =
-    keeps_over g.L.Link.applied g.L.Link.faults g.L.Link.refusals c.args.self.now.copy c.ready_list.new.self.copy c.grant_again.new.self.copy
-    c.write_list.new.self.copy c.ready_list.ensures.copy c.write_list.ensures.copy c.grant_again.ensures.copy
+pub returns-in-Err-write_list-clause-replica : goal.returns-in-Err-write_list-clause-replica
+returns-in-Err-write_list-clause-replica g c =
+    keeps_over g.L.Link.applied g.L.Link.faults g.L.Link.refusals c.args.self.now.replica c.ready_list.new.self.replica c.grant_again.new.self.replica
+    c.write_list.new.self.replica c.ready_list.ensures.replica c.write_list.ensures.replica c.grant_again.ensures.replica
 
 pub returns-in-Err-write_list-clause-lost : goal.returns-in-Err-write_list-clause-lost
 returns-in-Err-write_list-clause-lost g c =
-    lost_over c.args.self.now.copy c.ready_list.new.self.copy c.grant_again.new.self.copy c.write_list.new.self.copy c.args.self.now.table
-    c.ready_list.new.self.table c.grant_again.new.self.table c.write_list.new.self.table c.ready_list.ensures.copy c.write_list.ensures.copy
+    lost_over c.args.self.now.replica c.ready_list.new.self.replica c.grant_again.new.self.replica c.write_list.new.self.replica c.args.self.now.table
+    c.ready_list.new.self.table c.grant_again.new.self.table c.write_list.new.self.table c.ready_list.ensures.replica c.write_list.ensures.replica
     c.ready_list.ensures.table c.write_list.ensures.table c.grant_again.ensures.lost
 
 -- ---- all is done
@@ -172,13 +172,13 @@ returns-in-Ok-write_list-clause-cause g c =
     c.in-Ok-write_list.ensures.cause.quiet
     ∙ ap g.D.Disk.faults (ap (λ f. f.disk) c.grant_again.ensures.file ∙ c.ready_list.ensures.file.disk)
 
-pub returns-in-Ok-write_list-clause-copy : goal.returns-in-Ok-write_list-clause-copy
-returns-in-Ok-write_list-clause-copy g c =
-    keeps_over g.L.Link.applied g.L.Link.faults g.L.Link.refusals c.args.self.now.copy c.ready_list.new.self.copy c.grant_again.new.self.copy
-    c.write_list.new.self.copy c.ready_list.ensures.copy c.write_list.ensures.copy c.grant_again.ensures.copy
+pub returns-in-Ok-write_list-clause-replica : goal.returns-in-Ok-write_list-clause-replica
+returns-in-Ok-write_list-clause-replica g c =
+    keeps_over g.L.Link.applied g.L.Link.faults g.L.Link.refusals c.args.self.now.replica c.ready_list.new.self.replica c.grant_again.new.self.replica
+    c.write_list.new.self.replica c.ready_list.ensures.replica c.write_list.ensures.replica c.grant_again.ensures.replica
 
 pub returns-in-Ok-write_list-clause-lost : goal.returns-in-Ok-write_list-clause-lost
 returns-in-Ok-write_list-clause-lost g c =
-    lost_over c.args.self.now.copy c.ready_list.new.self.copy c.grant_again.new.self.copy c.write_list.new.self.copy c.args.self.now.table
-    c.ready_list.new.self.table c.grant_again.new.self.table c.write_list.new.self.table c.ready_list.ensures.copy c.write_list.ensures.copy
+    lost_over c.args.self.now.replica c.ready_list.new.self.replica c.grant_again.new.self.replica c.write_list.new.self.replica c.args.self.now.table
+    c.ready_list.new.self.table c.grant_again.new.self.table c.write_list.new.self.table c.ready_list.ensures.replica c.write_list.ensures.replica
     c.ready_list.ensures.table c.write_list.ensures.table c.grant_again.ensures.lost

@@ -10,8 +10,8 @@ use Rattle.hall.specs.Faults.{CountsFileFault, IsBadFile, IsHallFault, IsLateFau
 use Rattle.hall_model.specs.State.{State, opened}
 use Rattle.hall.proofs.hall.Hall.open.Goals as goal
 
-pub returns-in-Ok-open-clause-state : goal.returns-in-Ok-open-clause-state
-returns-in-Ok-open-clause-state g c =
+pub returns-clause-state : goal.returns-clause-state
+returns-clause-state g c =
     let locks = c.args.max_locks in
     let marks = c.args.max_marks in
     let intervals = c.args.intervals.items in
@@ -26,8 +26,8 @@ returns-in-Ok-open-clause-state g c =
     is ∙ ap (λ (s : State). opened locks marks intervals told link s.stored) (sym is))
     c.over.ensures.state
 
-pub returns-in-Ok-open-clause-stored : goal.returns-in-Ok-open-clause-stored
-returns-in-Ok-open-clause-stored g c =
+pub returns-clause-stored : goal.returns-clause-stored
+returns-clause-stored g c =
     let held = g.K.Keeper.held in
     let stood = HasStood (g.K.Keeper.may_leave c.args.keeper) in
     ok_two c.over.result _ _ _
@@ -36,12 +36,12 @@ returns-in-Ok-open-clause-stored g c =
     (subst (λ l. IfSome (held c.in-Ok-open.books.keeper) (λ _. IsRaised stood true l)) (sym (ap (λ (s : State). s.stored) h)) c.in-Ok-open.ensures.ledger))
     c.over.ensures.state c.over.ensures.keeper
 
-pub returns-in-Ok-open-clause-sound : goal.returns-in-Ok-open-clause-sound
-returns-in-Ok-open-clause-sound g c =
+pub returns-clause-sound : goal.returns-clause-sound
+returns-clause-sound g c =
     ok_more c.over.result _ _ (λ hall h. subst (IsRaised IsSound true) (sym (ap (λ (s : State). s.stored) h)) c.in-Ok-open.ensures.sound) c.over.ensures.state
 
-pub returns-in-Ok-open-clause-fault : goal.returns-in-Ok-open-clause-fault
-returns-in-Ok-open-clause-fault g c =
+pub returns-clause-fault : goal.returns-clause-fault
+returns-clause-fault g c =
     let held = g.K.Keeper.held in
     let before = g.K.Keeper.may_leave c.args.keeper in
     let tells = g.D.Disk.tells in
@@ -57,28 +57,28 @@ returns-in-Ok-open-clause-fault g c =
     c.in-Ok-open.ensures.ledger))
     c.over.ensures.fault c.over.ensures.kept
 
-pub returns-in-Ok-open-clause-untold_fault : goal.returns-in-Ok-open-clause-untold_fault
-returns-in-Ok-open-clause-untold_fault g c =
+pub returns-clause-untold_fault : goal.returns-clause-untold_fault
+returns-clause-untold_fault g c =
     err_more c.over.result _ _
     (λ e f. late_may (intervals_of c.in-Ok-new.ranges) c.in-Ok-open.books.ledger g.D.Disk.tells (g.D.Disk.reads c.args.disk) e.0 f)
     c.over.ensures.fault
 
-pub returns-in-Ok-open-clause-found : goal.returns-in-Ok-open-clause-found
-returns-in-Ok-open-clause-found g c =
+pub returns-clause-found : goal.returns-clause-found
+returns-clause-found g c =
     err_more c.over.result _ _
     (λ e f. late_bad (intervals_of c.in-Ok-new.ranges) c.in-Ok-open.books.ledger g.D.Disk.tells (g.D.Disk.reads c.args.disk) e.0
     (IfSome (g.K.Keeper.held e.1) (g.K.Keeper.may_leave c.args.keeper)) f)
     c.over.ensures.fault
 
-pub returns-in-Ok-open-clause-unchanged : goal.returns-in-Ok-open-clause-unchanged
-returns-in-Ok-open-clause-unchanged g c =
+pub returns-clause-unchanged : goal.returns-clause-unchanged
+returns-clause-unchanged g c =
     err_more c.over.result _ _
     (λ e f. late_kept (intervals_of c.in-Ok-new.ranges) c.in-Ok-open.books.ledger g.D.Disk.tells (g.D.Disk.reads c.args.disk) e.0
     (IsWithin (g.K.Keeper.may_leave e.1) (g.K.Keeper.may_leave c.args.keeper)) f)
     c.over.ensures.fault
 
-pub returns-in-Ok-open-clause-cause : goal.returns-in-Ok-open-clause-cause
-returns-in-Ok-open-clause-cause g c =
+pub returns-clause-cause : goal.returns-clause-cause
+returns-clause-cause g c =
     let faults = g.K.Keeper.faults in
     err_two c.over.result _ _ _
     (λ e f k. late_counts (intervals_of c.in-Ok-new.ranges) c.in-Ok-open.books.ledger g.D.Disk.tells (g.D.Disk.reads c.args.disk) e.0 (faults c.args.keeper)
@@ -86,8 +86,8 @@ returns-in-Ok-open-clause-cause g c =
     (ap faults k ∙ c.in-Ok-open.ensures.counts))
     c.over.ensures.fault c.over.ensures.kept
 
-pub returns-in-Ok-open-clause-file_fault : goal.returns-in-Ok-open-clause-file_fault
-returns-in-Ok-open-clause-file_fault g c = λ t.
+pub returns-clause-file_fault : goal.returns-clause-file_fault
+returns-clause-file_fault g c = λ t.
     let held = g.K.Keeper.held in
     let before = g.K.Keeper.may_leave c.args.keeper in
     let books = c.in-Ok-open.books in
@@ -98,8 +98,8 @@ returns-in-Ok-open-clause-file_fault g c = λ t.
     (subst (λ q. IfSome (held q) (λ _. IsRaised (HasStood before) true books.ledger)) (sym k) c.in-Ok-open.ensures.ledger) t f))
     c.over.ensures.fault c.over.ensures.kept
 
-pub returns-in-Ok-open-clause-images : goal.returns-in-Ok-open-clause-images
-returns-in-Ok-open-clause-images g c = λ t.
+pub returns-clause-images : goal.returns-clause-images
+returns-clause-images g c = λ t.
     let held = g.K.Keeper.held in
     let before = g.K.Keeper.may_leave c.args.keeper in
     let may_leave = g.D.Disk.may_leave in
@@ -109,21 +109,21 @@ returns-in-Ok-open-clause-images g c = λ t.
     (subst (λ q. IfSome (held q) (λ _. IsRaised (HasStood before) true books.ledger)) (sym k) c.in-Ok-open.ensures.ledger) f)
     (c.over.ensures.images t) c.over.ensures.kept
 
-pub returns-clause-file_fault : goal.returns-clause-file_fault
-returns-clause-file_fault g c = λ t.
+pub returns-in-Err-clause-file_fault : goal.returns-in-Err-clause-file_fault
+returns-in-Err-clause-file_fault g c = λ t.
     let told = g.K.Keeper.held c.in-Err.keeper in
     let before = g.K.Keeper.may_leave c.args.keeper in
     let bytes = g.D.Disk.reads c.args.disk in
     let intervals = c.args.intervals.items in
     subst (IsBadFile intervals told before bytes) (sym c.fault_of.ensures) (books_file intervals told before bytes c.in-Err.fault)
 
-pub returns-clause-file_cause : goal.returns-clause-file_cause
-returns-clause-file_cause g c =
+pub returns-in-Err-clause-file_cause : goal.returns-in-Err-clause-file_cause
+returns-in-Err-clause-file_cause g c =
     let count = g.D.Disk.faults c.args.disk in
     subst (λ f. CountsFileFault f count count) (sym c.fault_of.ensures) (books_file_counts c.in-Err.fault count count refl)
 
-pub returns-clause-fault : goal.returns-clause-fault
-returns-clause-fault g c =
+pub returns-in-Err-clause-fault : goal.returns-in-Err-clause-fault
+returns-in-Err-clause-fault g c =
     let held = g.K.Keeper.held in
     let before = g.K.Keeper.may_leave c.args.keeper in
     let intervals = c.args.intervals.items in

@@ -46,7 +46,8 @@ first-requires-clause-filed g c =
 pub returns-in-Ok-first_locks-clause-state : goal.returns-in-Ok-first_locks-clause-state
 returns-in-Ok-first_locks-clause-state g c =
     c.first.ensures.state
-    ∙ (λ i. opened c.args.max_locks c.args.max_marks (c.take_levels.ensures.intervals i) (is_some (g.K.Keeper.held c.args.books.keeper))
+    ∙ (λ i. opened c.args.begins.limits.max_locks c.args.begins.limits.max_marks (c.take_levels.ensures.intervals i)
+    (is_some (g.K.Keeper.held c.args.books.keeper))
     (is_some (g.L.Link.applied (c.in-Ok-first_locks.ensures.link i))) c.args.books.ledger)
 
 pub returns-in-Err-first_locks-clause-fault : goal.returns-in-Err-first_locks-clause-fault

@@ -69,12 +69,12 @@ returns-clause-good_file g c =
 
 pub returns-clause-linked : goal.returns-clause-linked
 returns-clause-linked g c =
-    subst (λ (v : View g.row.K.Denot g.row.D.Denot g.row.L.Denot). v.state.link_told ≡ is_some (g.L.Link.applied v.follower.link)) c.self.view_is
+    subst (λ (v : View g.row.K.Denot g.row.D.Denot g.row.L.Denot). v.state.link_told ≡ is_some (g.L.Link.applied v.replica.link)) c.self.view_is
     c.read_invariant.ensures.link
 
 pub returns-clause-good_replica : goal.returns-clause-good_replica
 returns-clause-good_replica g c =
-    subst (λ (v : View g.row.K.Denot g.row.D.Denot g.row.L.Denot). is_some (g.L.Link.applied v.follower.link) ≡ true
+    subst (λ (v : View g.row.K.Denot g.row.D.Denot g.row.L.Denot). is_some (g.L.Link.applied v.replica.link) ≡ true
     → is_unsound_replica c.told_twice-noted.result.1 ≡ false) c.self.view_is
     (λ yes. given_sound is_unsound_replica c.serve-answer.result.reply c.told_twice-noted.result.1 refl c.told_twice-noted.ensures.given
     (c.serve-answer.ensures.good_replica yes))
@@ -86,7 +86,7 @@ returns-clause-lost g c =
     let now = c.serve-answer.new.self in
     let after = with_calls now.state c.note.new.past.items in
     subst (λ (v : View g.row.K.Denot g.row.D.Denot g.row.L.Denot). renews_replica (call_of c.args.command) ≡ false
-    → LosesOnly (faults v.follower.link) (faults now.follower.link) (refusals v.follower.link) (refusals now.follower.link) v.state after) c.self.view_is
-    (λ other. loses_only g.L.Link.applied faults refusals c.self.inside.present.follower now.follower
+    → LosesOnly (faults v.replica.link) (faults now.replica.link) (refusals v.replica.link) (refusals now.replica.link) v.state after) c.self.view_is
+    (λ other. loses_only g.L.Link.applied faults refusals c.self.inside.present.replica now.replica
     (with_calls c.self.inside.present.state c.self.inside.past.items) after
-    c.read_invariant.ensures.attached c.read_invariant-2.ensures.attached (c.serve-answer.ensures.follower other))
+    c.read_invariant.ensures.attached c.read_invariant-2.ensures.attached (c.serve-answer.ensures.replica other))

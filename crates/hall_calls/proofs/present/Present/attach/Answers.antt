@@ -2,7 +2,7 @@ use Rattle.std.proofs.Common.{◌∙◌, Err, false, refl, sym, ap, subst}
 use Rattle.enq_base.specs.declared.refusal.Refusal.TheVariants as refusal
 use Rattle.hall_calls.proofs.ending.OverFields.{seen, state_in, up}
 use Rattle.hall_calls.proofs.ending.PresentCalls.{finds_up, present_locked}
-use Rattle.hall_calls.proofs.following.Handovers.{attach_fails, attach_wanting, attaches}
+use Rattle.hall_calls.proofs.replica.Handovers.{attach_fails, attach_wanting, attaches}
 use Rattle.hall_calls.proofs.verdicts.EachCall.{at_state}
 use Rattle.hall_calls.specs.Serving.{HasLinkCause, IsDue, Serves}
 use Rattle.hall_calls.specs.View.{View}
@@ -43,12 +43,12 @@ returns g c =
     let room : Admits s command.Attach = subst (λ k. Admits (state_in held applied (record old { condition = k }) past) command.Attach) on due.admits in
     let table = sym called.ensures.table in
     let links = sym called.ensures.later.told in
-    let serves : (r : Reply) → IsAct s command.Attach later r → HasLinkCause (g.L.Link.faults old.locks.copy.link) (g.L.Link.faults new.copy.link) r
+    let serves : (r : Reply) → IsAct s command.Attach later r → HasLinkCause (g.L.Link.faults old.locks.replica.link) (g.L.Link.faults new.replica.link) r
     → does c.args.self.now (seen held applied after) r =
     λ r act cause.
     subst (λ v. does v (seen held applied after) r) c.self.view_is
     (subst (λ k. does (seen held applied (record old { condition = k })) (seen held applied (record after { condition = k })) r) (sym on)
-    (record { call = act; store = refl; file = called.ensures.file; follower = called.ensures.later; over = tt; link = cause })) in
+    (record { call = act; store = refl; file = called.ensures.file; replica = called.ensures.later; over = tt; link = cause })) in
     elim c.match-attach.branch [
       | in-Ok w ↦
           rw w.result-is

@@ -1,4 +1,4 @@
-use Rattle.std.proofs.Common.{refl, sym, ap, ◌∙◌, subst, inl, inr}
+use Rattle.std.proofs.Common.{sym, ap, ◌∙◌, subst}
 use Rattle.hall_calls.proofs.ending.PresentCalls.{called_as, due_as}
 use Rattle.hall_model.specs.Calls.{call_of}
 use Rattle.hall_model.specs.Stocks.{MayCall}
@@ -45,25 +45,25 @@ returns-in-Commit g c =
     called_as (c.in-Commit.is ∙ ap (command.Commit c.in-Commit.session c.in-Commit.parts) (sym c.as_slice.ensures)) c.commit.ensures
 
 pub take-requires : goal.take-requires
-take-requires g c = record { due = due_as c.in-Take1.is c.requires.due; part = inl refl }
+take-requires g c = due_as c.in-Take1.is c.requires.due
 
 pub returns-in-Take1 : goal.returns-in-Take1
 returns-in-Take1 g c = called_as c.in-Take1.is c.take.ensures
 
 pub post-requires : goal.post-requires
-post-requires g c = record { due = due_as c.in-Do1.is c.requires.due; part = inl refl }
+post-requires g c = due_as c.in-Do1.is c.requires.due
 
 pub returns-in-Do1 : goal.returns-in-Do1
 returns-in-Do1 g c = called_as c.in-Do1.is c.post.ensures
 
 pub take-requires-in-Take2 : goal.take-requires-in-Take2
-take-requires-in-Take2 g c = record { due = due_as c.in-Take2.is c.requires.due; part = inr refl }
+take-requires-in-Take2 g c = due_as c.in-Take2.is c.requires.due
 
 pub returns-in-Take2 : goal.returns-in-Take2
 returns-in-Take2 g c = called_as c.in-Take2.is c.take-in-Take2.ensures
 
 pub post-requires-in-Do2 : goal.post-requires-in-Do2
-post-requires-in-Do2 g c = record { due = due_as c.in-Do2.is c.requires.due; part = inr refl }
+post-requires-in-Do2 g c = due_as c.in-Do2.is c.requires.due
 
 pub returns-in-Do2 : goal.returns-in-Do2
 returns-in-Do2 g c = called_as c.in-Do2.is c.post-in-Do2.ensures

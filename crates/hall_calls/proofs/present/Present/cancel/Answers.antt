@@ -36,6 +36,6 @@ returns g c =
     (c.ended.ensures (length c.args.past.now.items) c.self.inside.books.ledger.start None c.begun-call.ensures)
     (leaves_else refl refl refl refl called.ensures.told called.ensures.ledger
     (lost_none old.books.ledger.start old.locks.table called.new.locks.table old.sessions called.result called.ensures.table)
-    (locks_up old now refl called.ensures.follower called.ensures.limit called.ensures.lost)
+    (locks_up old now refl called.ensures.replica called.ensures.limit called.ensures.lost)
     (λ none room. called.ensures.act s (sym c.as_slice.ensures.value) refl refl refl room))
-    (record { told = called.ensures.told; cause = called.ensures.cause; kept = called.ensures.kept }) called.ensures.file.does called.ensures.follower
+    (record { told = called.ensures.told; cause = called.ensures.cause; kept = called.ensures.kept }) called.ensures.file.does called.ensures.replica

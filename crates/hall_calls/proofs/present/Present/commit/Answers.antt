@@ -50,7 +50,7 @@ returns g c =
       orders = also_failed _ called.result refl;
       ranges = commit_ranges c.args.session.now c.args.parts.now c.args.stock.now called.result old.ranges called.new.ranges called.ensures.ranges;
       lost = lost_none old.books.ledger.start old.locks.table called.new.locks.table old.sessions called.result called.ensures.table;
-      locks = locks_up old now refl called.ensures.follower called.ensures.limit called.ensures.lost;
+      locks = locks_up old now refl called.ensures.replica called.ensures.limit called.ensures.lost;
       written = λ none room. called.ensures.act s refl refl refl refl refl room;
     })
-    (wrote called.ensures.store) called.ensures.file.does called.ensures.follower
+    (wrote called.ensures.store) called.ensures.file.does called.ensures.replica

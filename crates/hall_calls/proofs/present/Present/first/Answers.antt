@@ -1,5 +1,5 @@
 use Rattle.std.proofs.Common.{[], false, is_some}
-use Rattle.enq_server.specs.Following.{told_list}
+use Rattle.enq_server.specs.Replica.{told_list}
 use Rattle.enq_base.specs.declared.condition.Condition.TheVariants.{Up}
 use Rattle.hall_calls.proofs.ending.PresentCalls.{present_first}
 use Rattle.hall_calls.specs.Remaking.{flight_over}
@@ -12,8 +12,9 @@ invariant_of-result g c =
 
 pub returns-clause-state : goal.returns-clause-state
 returns-clause-state g c =
-    λ i. state_of (is_some (g.K.Keeper.held c.args.books.keeper)) (is_some (g.L.Link.applied c.args.locks.copy.link)) (c.requires.detached i) false
-    Up (c.new.ensures i) 1 (c.requires.orders i) (c.requires.locks i) (told_list g.L.Link.applied c.args.locks.copy) c.args.max_locks c.args.max_marks
+    λ i. state_of (is_some (g.K.Keeper.held c.args.books.keeper)) (is_some (g.L.Link.applied c.args.locks.replica.link)) (c.requires.detached i) false
+    Up (c.new.ensures i) 1 (c.requires.orders i) (c.requires.locks i) (told_list g.L.Link.applied c.args.locks.replica) c.args.limits.max_locks
+    c.args.limits.max_marks
     (c.requires.levels i) c.args.books.ledger (flight_over c.args.books.ledger (c.none.ensures i)) (c.none.ensures i).found (c.none.ensures i).caller []
 
 pub returns-clause-left : goal.returns-clause-left

@@ -1,7 +1,7 @@
 use Rattle.std.proofs.Common.{refl, sym, ap, ◌∙◌, subst, is_some}
 use Rattle.enq_base.specs.declared.condition.Condition.TheVariants.{NoServer}
-use Rattle.enq_server.proofs.lemmas.Following.{keeps_none}
-use Rattle.enq_server.specs.Following.{KeepsOn}
+use Rattle.enq_server.proofs.lemmas.Replicas.{keeps_none}
+use Rattle.enq_server.specs.Replica.{KeepsOn}
 use Rattle.enq_server.specs.Server.{replicated}
 use Rattle.hall_calls.proofs.ending.OverFields.{state_in, up}
 use Rattle.hall_calls.proofs.ending.PresentCalls.{finds, finds_up, serves_apart}
@@ -39,7 +39,7 @@ invariant_of-self g c =
             lists = h.lists;
             stands = h.stands;
             agree = h.agree;
-            landed = h.landed;
+            flight_agrees = h.flight_agrees;
             only = outside old.condition _ serving h.only;
           });
       stands = c.end_table.ensures.stands;
@@ -54,11 +54,11 @@ returns g c =
     let s = state_in g.K.Keeper.held g.L.Link.applied (up old) past in
     let later = state_in g.K.Keeper.held g.L.Link.applied new past in
     let marks = ended.ensures.sessions ∙ ap (λ n. with_marks (has_one_of n (unhanded old.locks.table.entries)) old.sessions) c.start-start.ensures in
-    let copy = sym ended.ensures.copy in
+    let replica = sym ended.ensures.replica in
     let list = sym ended.ensures.told in
     serves_apart c.self.view_is c.requires refl refl refl refl ended.ensures.file
-    (subst (KeepsOn g.L.Link.applied g.L.Link.faults g.L.Link.refusals old.locks.copy) copy
-    (keeps_none g.L.Link.applied g.L.Link.faults g.L.Link.refusals old.locks.copy))
+    (subst (KeepsOn g.L.Link.applied g.L.Link.faults g.L.Link.refusals old.locks.replica) replica
+    (keeps_none g.L.Link.applied g.L.Link.faults g.L.Link.refusals old.locks.replica))
     refl
     (subst (λ k. Admits (state_in g.K.Keeper.held g.L.Link.applied (record old { condition = k }) past) command.Kill
     → IsAct (state_in g.K.Keeper.held g.L.Link.applied (record old { condition = k }) past) command.Kill later reply.Done)
@@ -68,7 +68,7 @@ returns g c =
       sessions = sym marks i;
       locks = list i;
       limit = (replicated old.max_locks (list i)).limit;
-      attached = (copy i).attached;
-      link_told = is_some (g.L.Link.applied (copy i).link);
+      attached = (replica i).attached;
+      link_told = is_some (g.L.Link.applied (replica i).link);
     })
     (is_done s command.Kill (killed s) tt room refl)))

@@ -3,7 +3,7 @@ use Rattle.hall_model.specs.Calls.{call_of}
 use Rattle.hall_model.specs.State.{is_up}
 use Rattle.hall_calls.proofs.ending.OverFields.{state_in, up}
 use Rattle.hall_calls.proofs.ending.PresentCalls.{asks_server, finds, finds_up, present_locked, serves_locked, young}
-use Rattle.hall_calls.proofs.following.EachCall.{never_remakes}
+use Rattle.hall_calls.proofs.replica.EachCall.{never_remakes}
 use Rattle.hall_calls.proofs.present.Present.lock.Goals as goal
 
 pub lock-requires : goal.lock-requires
@@ -25,5 +25,5 @@ returns g c =
     let old = c.self.inside in
     let s = state_in g.K.Keeper.held g.L.Link.applied (up old) c.args.past.now.items in
     serves_locked old (record old { sessions = c.lock.new.sessions; locks = c.lock.new.locks }) c.self.view_is c.requires.due c.requires.of_locks
-    c.lock.ensures.file c.lock.ensures.follower c.lock.ensures.limit c.lock.ensures.lost c.of.ensures
+    c.lock.ensures.file c.lock.ensures.replica c.lock.ensures.limit c.lock.ensures.lost c.of.ensures
     (c.lock.ensures.act s (sym c.start-start.ensures) refl refl refl)

@@ -2,8 +2,8 @@ use Rattle.std.proofs.Common.{◌≡◌, true, false, refl, sym, ap, ◌∙◌, 
 use Rattle.std.specs.Prelude.{IsTrue}
 use Rattle.hall_calls.proofs.ending.OverFields.{remade_as, seen, state_in}
 use Rattle.hall_calls.proofs.lemmas.WithHistory.{store_told}
-use Rattle.hall_calls.proofs.following.EachCall.{quiet_link}
-use Rattle.hall_calls.proofs.restarting.OverRead.{pending_under}
+use Rattle.hall_calls.proofs.replica.EachCall.{quiet_link}
+use Rattle.hall_calls.proofs.restarting.OverRead.{in_flight_under}
 use Rattle.lock_entry.specs.Sound.{IsSound}
 use Rattle.hall_model.specs.OpenUnits.{open_entries}
 use Rattle.hall_calls.proofs.ending.OverFile.{remade_filed, remade_recovers}
@@ -67,7 +67,7 @@ told_so g c =
     let new : State = state_in held applied now past in
     let told = store_told held g.K.Keeper.may_leave g.K.Keeper.faults old.books.keeper called.new.books.keeper s command.Restart _ called.ensures.store in
     let is =
-    remade_as held applied called.result old now past told called.ensures.follower.told called.ensures.detached called.ensures.untouched
+    remade_as held applied called.result old now past told called.ensures.replica.told called.ensures.detached called.ensures.untouched
     ended.ensures.condition ended.ensures.over ended.ensures.failure called.ensures.sessions called.ensures.orders called.ensures.ledger in
     subst (λ (v : View g.row.K.Denot g.row.D.Denot g.row.L.Denot). IsTelling
     (with_calls v.state past) command.Restart ended.result.taken new ended.result.reply) c.self.view_is
@@ -106,10 +106,10 @@ returns-clause-serves g c =
           (sym ended.ensures.reply) called.ensures.store;
       file = subst (HasFileCause (g.D.Disk.faults old.locks.file.disk) (g.D.Disk.faults called.new.locks.file.disk))
           (sym ended.ensures.reply) called.ensures.cause;
-      follower = called.ensures.follower;
+      replica = called.ensures.replica;
       over = tt;
-      link = quiet_link _ command.Restart (with_calls after.state past) ended.result.reply (g.L.Link.faults old.locks.copy.link)
-          (g.L.Link.faults called.new.locks.copy.link) refl a;
+      link = quiet_link _ command.Restart (with_calls after.state past) ended.result.reply (g.L.Link.faults old.locks.replica.link)
+          (g.L.Link.faults called.new.locks.replica.link) refl a;
     }) act
 
 pub returns-clause-good_file : goal.returns-clause-good_file
@@ -119,7 +119,7 @@ returns-clause-good_file g c = λ yes honest.
     let told = subst (λ (v : View g.row.K.Denot g.row.D.Denot g.row.L.Denot). IsTrue (is_honest v.state)) (sym c.self.view_is) honest in
     subst (λ r. is_unsound_file r ≡ false) (sym c.settled.ensures.reply)
     (c.remake-remade.ensures.good_file yes (due.kept.open_units.stored told).together
-    (pending_under _ _ (λ ledger. IsSound (open_entries ledger)) told due.kept.open_units.pending))
+    (in_flight_under _ _ (λ ledger. IsSound (open_entries ledger)) told due.kept.open_units.in_flight))
 
 pub returns-clause-good_store : goal.returns-clause-good_store
 returns-clause-good_store g c =

@@ -41,6 +41,6 @@ returns g c =
     (leaves_else refl refl refl refl called.ensures.told called.ensures.ledger
     (lost_regained old.books.ledger old.sessions c.args.unit old.locks.table called.new.locks.table found.kept.steady.fresh.ahead found.kept.sound.stored
     called.result called.ensures.table)
-    (locks_up old now refl called.ensures.follower called.ensures.limit called.ensures.lost)
+    (locks_up old now refl called.ensures.replica called.ensures.limit called.ensures.lost)
     (λ none room. called.ensures.act s refl refl refl refl room))
-    (record { told = called.ensures.told; cause = called.ensures.cause; kept = called.ensures.kept }) called.ensures.file.does called.ensures.follower
+    (record { told = called.ensures.told; cause = called.ensures.cause; kept = called.ensures.kept }) called.ensures.file.does called.ensures.replica

@@ -6,7 +6,7 @@ use Rattle.number_stock.proofs.stock.Stock.tell.Goals as goal
 
 pub returns-clause-told : goal.returns-clause-told
 returns-clause-told c =
-    let cut = c.split-kept.ensures.cut in (
-      cut.0 ∙ kept_none (hand c.args.from),
-      heard_is (hand c.args.from) (hand c.args.to) _ (c.glue.ensures.both ∙ ap (both_of (hand c.args.to)) cut.1) c.glue.ensures.learned.4,
+    let cut = c.cut-given.ensures.cut in (
+      cut.0 ∙ kept_none (hand c.args.from.now),
+      heard_is (hand c.args.from.now) (hand c.args.to.now) _ (c.absorb.ensures.both ∙ ap (both_of (hand c.args.to.now)) cut.1) c.absorb.ensures.leads,
     )

@@ -6,20 +6,20 @@ use Rattle.posting.proofs.lemmas.LedgerNumbers.{sound_numbers}
 use Rattle.posting.proofs.FoundLedger.{opened_usable, stood_now}
 use Rattle.posting.proofs.books.Books.reopen.Goals as goal
 
-pub returns-in-Ok-clause-usable : goal.returns-in-Ok-clause-usable
-returns-in-Ok-clause-usable g c =
+pub returns-clause-usable : goal.returns-clause-usable
+returns-clause-usable g c =
     opened_usable g.K.Keeper.held g.K.Keeper.is_open (g.K.Keeper.may_leave c.self.inside.keeper) c.in-Ok.register.ledger _
     c.in-Ok.ensures.opened refl c.in-Ok.ensures.stands
 
-pub returns-in-Ok-clause-ledger : goal.returns-in-Ok-clause-ledger
-returns-in-Ok-clause-ledger g c =
+pub returns-clause-ledger : goal.returns-clause-ledger
+returns-clause-ledger g c =
     let held = g.K.Keeper.held c.open_register.new.keeper in
     let read = c.in-Ok.register.ledger in
     subst (λ (s : BooksView g.row.K.Denot). IfSome held (λ _. IsRaised (HasStood (g.K.Keeper.may_leave s.keeper)) false read)) c.self.view_is
     (stood_now held held (g.K.Keeper.may_leave c.self.inside.keeper) false read read refl refl c.in-Ok.ensures.stands)
 
-pub returns-in-Ok-clause-sound : goal.returns-in-Ok-clause-sound
-returns-in-Ok-clause-sound g c = (c.in-Ok.register.ledger, c.in-Ok.ensures.sound, refl)
+pub returns-clause-sound : goal.returns-clause-sound
+returns-clause-sound g c = (c.in-Ok.register.ledger, c.in-Ok.ensures.sound, refl)
 
-pub returns-in-Ok-clause-numbers : goal.returns-in-Ok-clause-numbers
-returns-in-Ok-clause-numbers g c = sound_numbers c.in-Ok.register.ledger c.in-Ok.ensures.sound
+pub returns-clause-numbers : goal.returns-clause-numbers
+returns-clause-numbers g c = sound_numbers c.in-Ok.register.ledger c.in-Ok.ensures.sound

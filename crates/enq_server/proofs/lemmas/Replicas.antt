@@ -11,11 +11,11 @@ use Rattle.enq_base.specs.declared.owner.Owner.{Owner}
 use Rattle.lock_entry.specs.Names.{is_of}
 use Rattle.lock_entry.specs.Table.{entry_at}
 use Rattle.lock_entry.specs.declared.entry.Entry.{Entry}
-use Rattle.replica_link.specs.Operations.{replica}
+use Rattle.replica_link.specs.Operations.{after_ops}
 use Rattle.replica_link.specs.Shipping.{drop_of, owner_ops}
 use Rattle.replica_link.specs.declared.operation.TableOp.{TableOp}
-use Rattle.replica_link.proofs.lemmas.Drops.{replica-append}
-use Rattle.enq_server.specs.Following.{Following, IsAt, IsLostBy, KeepsOn}
+use Rattle.replica_link.proofs.lemmas.Drops.{after_ops-append}
+use Rattle.enq_server.specs.Replica.{IsAt, IsLostBy, KeepsOn, ReplicaView}
 
 rose_later : (a b c : ℕ) → a ≤ b → Rose b c → Rose a c
 rose_later a b c less rose = rises a b c (2 ^ 64 - 1) less rose
@@ -29,7 +29,7 @@ rose_before a b c rose less = rises (one_more a) b c rose less
     rises : (a b c : ℕ) → a ≤ b → b ≤ c → a ≤ c
     rises a b c one two = omega (arith, one, two)
 
-pub keeps_none : {L : Type 0} (applied : L → Option (List Entry)) (faults refusals : L → ℕ) (f : Following L) → KeepsOn applied faults refusals f f
+pub keeps_none : {L : Type 0} (applied : L → Option (List Entry)) (faults refusals : L → ℕ) (f : ReplicaView L) → KeepsOn applied faults refusals f f
 keeps_none applied faults refusals f = record {
   faults_later = omega arith;
   refusals_later = omega arith;
@@ -38,7 +38,7 @@ keeps_none applied faults refusals f = record {
   told = refl;
 }
 
-pub keeps_both : {L : Type 0} (applied : L → Option (List Entry)) (faults refusals : L → ℕ) (a b c : Following L) → KeepsOn applied faults refusals a b
+pub keeps_both : {L : Type 0} (applied : L → Option (List Entry)) (faults refusals : L → ℕ) (a b c : ReplicaView L) → KeepsOn applied faults refusals a b
     → KeepsOn applied faults refusals b c → KeepsOn applied faults refusals a c
 keeps_both applied faults refusals a b c one two = record {
   faults_later = omega (arith, one.faults_later, two.faults_later);
@@ -67,15 +67,15 @@ either_lost : (on between now : Bool) (n m : ℕ) → (on ≡ true → between �
 either_lost on true now n m one two follows gone = let some = two refl gone in omega (arith, some)
 either_lost on false now n m one two follows gone = let some = one follows refl in omega (arith, some)
 
-pub lost_more : {L : Type 0} (a b c : Following L) (ops more all : List TableOp) → all ≡ ops ++ more → IsLostBy a b ops → IsLostBy b c more → IsLostBy a c all
+pub lost_more : {L : Type 0} (a b c : ReplicaView L) (ops more all : List TableOp) → all ≡ ops ++ more → IsLostBy a b ops → IsLostBy b c more → IsLostBy a c all
 lost_more a b c ops more all is one two = λ on off.
     subst (λ n. 1 ≤ n) (sym (ap length is ∙ length-append ops more))
     (either_lost a.attached b.attached c.attached (length ops) (length more) one two on off)
 
 -- operations and then more of them
-pub at_more : {L : Type 0} (applied : L → Option (List Entry)) (f : Following L) (list : List Entry) (ops more all : List TableOp) → all ≡ ops ++ more
-    → IsAt applied f (replica (replica list ops) more) → IsAt applied f (replica list all)
-at_more applied f list ops more all is at = subst (IsAt applied f) (sym (ap (replica list) is ∙ replica-append list ops more)) at
+pub at_more : {L : Type 0} (applied : L → Option (List Entry)) (f : ReplicaView L) (list : List Entry) (ops more all : List TableOp) → all ≡ ops ++ more
+    → IsAt applied f (after_ops (after_ops list ops) more) → IsAt applied f (after_ops list all)
+at_more applied f list ops more all is at = subst (IsAt applied f) (sym (ap (after_ops list) is ∙ after_ops-append list ops more)) at
 
 taken : (es : List Entry) (i : ℕ) (e : Entry) → slice_get es i ≡ Some e → take (suc i) es ≡ take i es ++ e ∷ []
 taken [] i e is = absurd (none-some e is)

@@ -3,7 +3,7 @@ use Rattle.std.proofs.Common.{◌≡◌, ℕ, Bool, true, false, List, sym, ap, 
 use Rattle.std.specs.Prelude.{IsTrue, Option}
 use Rattle.enq_base.specs.declared.refusal.Refusal.{Refusal}
 use Rattle.enq_base.specs.declared.refusal.Refusal.TheVariants as refusal
-use Rattle.enq_server.specs.Following.{Following, IsLater, KeepsOn}
+use Rattle.enq_server.specs.Replica.{IsLater, KeepsOn, ReplicaView}
 use Rattle.keeper_api.specs.Rows.{Rows}
 use Rattle.lock_entry.specs.declared.entry.Entry.{Entry}
 use Rattle.hall_model.specs.Acts.{IsAct}
@@ -85,7 +85,7 @@ pub serves_as : {K D L : Type 0} (held : K → Option Rows) (may_leave : K → R
     → renews_replica (call_of c) ≡ false → IsAct (with_calls old.state past) c (with_calls new.state past) r
     → DoesStore held may_leave faults (restarts (call_of c)) (reaches_store old.state (call_of c)) old.keeper new.keeper r
     → LeavesFile disk_faults (restarts (call_of c)) (touches_file (call_of c)) old.file new.file r
-    → KeepsOn applied link_faults refusals old.follower new.follower
+    → KeepsOn applied link_faults refusals old.replica new.replica
     → Serves held may_leave faults disk_faults gives applied link_faults refusals old new past c r
 serves_as held may_leave faults disk_faults gives applied link_faults refusals old new past c r off act store file keeps =
     let other = unrenewed (call_of c) off in
@@ -93,9 +93,9 @@ serves_as held may_leave faults disk_faults gives applied link_faults refusals o
       call = act;
       store = store;
       file = file;
-      follower = subst (λ b. Follows applied link_faults refusals b old.follower new.follower) (sym off) keeps;
-      over = subst (λ b. IsOver b new.state.locks (gives old.follower.link) r) (sym other.1) tt;
-      link = quiet_link (with_calls old.state past) c (with_calls new.state past) r (link_faults old.follower.link) (link_faults new.follower.link) other.2 act;
+      replica = subst (λ b. Follows applied link_faults refusals b old.replica new.replica) (sym off) keeps;
+      over = subst (λ b. IsOver b new.state.locks (gives old.replica.link) r) (sym other.1) tt;
+      link = quiet_link (with_calls old.state past) c (with_calls new.state past) r (link_faults old.replica.link) (link_faults new.replica.link) other.2 act;
     }
 
 -- a refusal that no device caused tells nothing of the link
@@ -110,7 +110,7 @@ refused_over true locks given _ plain = tt
 refused_over false locks given r plain = tt
 
 -- whatever the call, the link's counts don't fall
-pub any_link : {L : Type 0} (applied : L → Option (List Entry)) (faults refusals : L → ℕ) (old new : Following L) (renews : Bool)
+pub any_link : {L : Type 0} (applied : L → Option (List Entry)) (faults refusals : L → ℕ) (old new : ReplicaView L) (renews : Bool)
     → Follows applied faults refusals renews old new → IsLater applied faults refusals old new
 any_link applied faults refusals old new true h = h
 any_link applied faults refusals old new false h = record { faults_later = h.faults_later; refusals_later = h.refusals_later; told = h.told }

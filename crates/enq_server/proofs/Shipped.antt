@@ -13,11 +13,11 @@ use Rattle.lock_entry.specs.declared.entry.Entry.{Entry}
 use Rattle.lock_entry.specs.declared.entry.Request.{Request}
 use Rattle.lock_entry.specs.declared.fault.AskFault.{AskFault}
 use Rattle.lock_entry.specs.declared.fault.AskFault.TheVariants as ask
-use Rattle.replica_link.specs.Operations.{replica}
+use Rattle.replica_link.specs.Operations.{after_ops}
 use Rattle.replica_link.specs.Shipping.{drop_of, granted_ops, owner_ops, turn_ops}
 use Rattle.replica_link.specs.declared.operation.TableOp.TheVariants.{Put}
 use Rattle.replica_link.proofs.lemmas.Converts.{converted_ops-conversion}
-use Rattle.replica_link.proofs.lemmas.Drops.{replica-append}
+use Rattle.replica_link.proofs.lemmas.Drops.{after_ops-append}
 use Rattle.replica_link.proofs.lemmas.Grants.{granted_ops-granted, readmitted_ops-readmitted}
 
 unbarred : {X : Type 0} (b : Option Entry) (r : Result X AskFault) (x : X) → unless_barred b r ≡ Ok x → r ≡ Ok x
@@ -46,10 +46,10 @@ granted_is t asker user requests es h =
     (unbarred (first_bar t.entries asker (map (λ (r : Request). r.asked) requests)) (unless_full t added counted) es h))))
 
 pub granted_at : (t : Table) (asker : Asker) (user : List ℕ) (requests : List Request) (es : List Entry) → IsTable t → asked t asker user requests ≡ Ok es
-    → replica t.entries (granted_ops es (halves asker requests)) ≡ es
+    → after_ops t.entries (granted_ops es (halves asker requests)) ≡ es
 granted_at t asker user requests es good h =
     let is = granted_is t asker user requests es h in
-    ap (λ x. replica t.entries (granted_ops x (halves asker requests))) is ∙ granted_ops-granted t.entries user (halves asker requests) good.sound.names
+    ap (λ x. after_ops t.entries (granted_ops x (halves asker requests))) is ∙ granted_ops-granted t.entries user (halves asker requests) good.sound.names
     ∙ sym is
 
 pub readmitted_is : (t : Table) (asker : Asker) (given es : List Entry) → readmitted t asker given ≡ Ok es → es ≡ freed_owner t.entries asker.update ++ given
@@ -59,10 +59,10 @@ readmitted_is t asker given es h =
     sym (same_Ok (Ok g) g es refl (passed _ _ _ _ (unbarred _ _ _ h)))
 
 pub readmitted_at : (t : Table) (asker : Asker) (own given es : List Entry) → IsTable t → ReadmitsOnly asker given → own ≡ filter (is_of asker.update) t.entries
-    → readmitted t asker given ≡ Ok es → replica (replica t.entries (map drop_of own)) (map Put given) ≡ es
+    → readmitted t asker given ≡ Ok es → after_ops (after_ops t.entries (map drop_of own)) (map Put given) ≡ es
 readmitted_at t asker own given es good only is h =
-    ap (λ xs. replica (replica t.entries (map drop_of xs)) (map Put given)) is
-    ∙ sym (replica-append t.entries (owner_ops t.entries asker.update) (map Put given))
+    ap (λ xs. after_ops (after_ops t.entries (map drop_of xs)) (map Put given)) is
+    ∙ sym (after_ops-append t.entries (owner_ops t.entries asker.update) (map Put given))
     ∙ readmitted_ops-readmitted t.entries asker given good.sound.names only
     ∙ sym (readmitted_is t asker given es h)
 
@@ -77,10 +77,10 @@ converted_is es asker asked r h =
     (passed (is_lost es asker asked) ask.Lost (unless_barred (first_withstanding es asker asked) counted) r h)))
 
 pub converted_at : (es : List Entry) (asker : Asker) (asked : List Asked) (r : Conversion) → converted es asker asked ≡ Ok r
-    → replica (replica es (flat_map (turn_ops asker) asked)) (map drop_of r.removed) ≡ r.entries
+    → after_ops (after_ops es (flat_map (turn_ops asker) asked)) (map drop_of r.removed) ≡ r.entries
 converted_at es asker asked r h =
     let is = converted_is es asker asked r h in
-    ap (λ x. replica (replica es (flat_map (turn_ops asker) asked)) (map drop_of x.removed)) (sym is)
-    ∙ sym (replica-append es (flat_map (turn_ops asker) asked) (map drop_of (conversion es asker asked).removed))
+    ap (λ x. after_ops (after_ops es (flat_map (turn_ops asker) asked)) (map drop_of x.removed)) (sym is)
+    ∙ sym (after_ops-append es (flat_map (turn_ops asker) asked) (map drop_of (conversion es asker asked).removed))
     ∙ converted_ops-conversion asker asked es
     ∙ ap (λ x. x.entries) is

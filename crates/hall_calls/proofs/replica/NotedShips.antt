@@ -24,6 +24,8 @@ use Rattle.hall_model.specs.Step.{Found, Verdict, Refuses, ask_refusal, called, 
 use Rattle.hall_model.specs.declared.command.Reply.TheVariants as reply
 use Rattle.hall_model.specs.declared.command.Session.{Session}
 use Rattle.model_laws.proofs.ByCall.{by_room}
+use Rattle.ledger_steps.specs.declared.part.Part.{Part}
+use Rattle.ledger_steps.specs.Parts.{is_first}
 
 abbrev IsNoted : State → Verdict → Type 0
 IsNoted s v = is_unrecorded (judged s v).reply ≡ false
@@ -79,14 +81,14 @@ called_noted : (found : Found) (s : State) (call : SessionCall) (name : List ℕ
 called_noted found s call name None on = refl
 called_noted found s call name (Some x) on = session_noted found s x call name on
 
-posted_noted : (part : ℕ) (unit : UnitKey) (o : Outcome) → is_unrecorded (posted_reply part unit o) ≡ false
-posted_noted part unit outcome.Done = elim (nat_eq part 1) as (λ b. is_unrecorded (if b then reply.Posted unit else reply.Closed unit) ≡ false)
+posted_noted : (part : Part) (unit : UnitKey) (o : Outcome) → is_unrecorded (posted_reply part unit o) ≡ false
+posted_noted part unit outcome.Done = elim (is_first part) as (λ b. is_unrecorded (if b then reply.Posted unit else reply.Closed unit) ≡ false)
     [ true ↦ refl | false ↦ refl ]
 posted_noted part unit (outcome.Refused index reason) =
-    elim (nat_eq part 1) as (λ b. is_unrecorded (if b then reply.Bad unit index reason else reply.Bad2 unit index reason) ≡ false)
+    elim (is_first part) as (λ b. is_unrecorded (if b then reply.Bad unit index reason else reply.Bad2 unit index reason) ≡ false)
     [ true ↦ refl | false ↦ refl ]
 
-post_noted : (found : Found) (s : State) (worker part : ℕ) (o : Option UnitKey)
+post_noted : (found : Found) (s : State) (worker : ℕ) (part : Part) (o : Option UnitKey)
     → IsNoted s (elim o [ None ↦ Refuses refusal.NoOrder | Some unit ↦ with_room s (posting part s worker unit (found.part part unit)) ])
 post_noted found s worker part None = refl
 post_noted found s worker part (Some unit) = by_room (IsNoted s) s _ refl (posted_noted part unit (found.part part unit))

@@ -7,7 +7,7 @@ use Rattle.lock_entry.specs.Names.{has_name, is_of}
 use Rattle.lock_entry.specs.Table.{Table, with_entries}
 use Rattle.lock_entry.specs.declared.entry.Entry.{Entry}
 use Rattle.lock_entry.specs.declared.entry.LockName.{LockName}
-use Rattle.enq_server.specs.Following.{Following, IsLostWith}
+use Rattle.enq_server.specs.Replica.{IsLostWith, ReplicaView}
 
 -- ---- each free leaves the locks, or less of them
 
@@ -97,11 +97,11 @@ never_back : (a c : Table) → c ≡ a → weight c.entries < weight a.entries �
 never_back a c same less = let is : weight c.entries ≡ weight a.entries = ap (λ (t : Table). weight t.entries) same in omega (arith, is, less)
 
 -- frees that leave less, where what followed is lost only with other locks
-pub record IsFreed {L : Type 0} (old new : Following L) (before now : Table) : Type 0 where
+pub record IsFreed {L : Type 0} (old new : ReplicaView L) (before now : Table) : Type 0 where
   pub less : IsLess before now
   pub lost : IsLostWith old new before now
 
-pub freed_none : {L : Type 0} (f : Following L) (t : Table) → IsFreed f f t t
+pub freed_none : {L : Type 0} (f : ReplicaView L) (t : Table) → IsFreed f f t t
 freed_none f t = record { less = inl refl; lost = λ on off. absurd (true≢false (sym on ∙ off)) }
 
 lost_later : (a b c : Table) → IsLess a b → IsLess b c → (c ≡ b → ⊥) → c ≡ a → ⊥
@@ -114,7 +114,7 @@ lost_before a b c (inl same) second other is = other same
 lost_before a b c (inr first) (inl same) other is = other (sym same ∙ is)
 lost_before a b c (inr first) (inr less) other is = never_back a c is (omega (arith, first, less))
 
-pub freed_both : {L : Type 0} (f g h : Following L) (a b c : Table) → IsFreed f g a b → IsFreed g h b c → IsFreed f h a c
+pub freed_both : {L : Type 0} (f g h : ReplicaView L) (a b c : Table) → IsFreed f g a b → IsFreed g h b c → IsFreed f h a c
 freed_both f g h a b c one two = record {
   less = less_both a b c one.less two.less;
   lost = λ on off same. by on off same (cases_Bool g.attached);

@@ -13,23 +13,23 @@ use Rattle.enq_server.specs.declared.fault.OverFault.{OverFault}
 use Rattle.enq_server.specs.declared.fault.OverFault.TheVariants as over
 
 -- the link to it, the number of the next operation, and whether it follows
-pub record Following (L : Type 0) : Type 0 where
+pub record ReplicaView (L : Type 0) : Type 0 where
   pub link : L
   pub seq : ℕ
   pub attached : Bool
 
 -- where it follows and the link tells its list, that is this one
-abbrev pub IsAt : {L : Type 0} → (L → Option (List Entry)) → Following L → List Entry → Type 0
+abbrev pub IsAt : {L : Type 0} → (L → Option (List Entry)) → ReplicaView L → List Entry → Type 0
 IsAt applied f list = f.attached ≡ true → IfSome (applied f.link) (λ l. l ≡ list)
 
 -- the list of a replica that follows, where the link tells it
-abbrev pub told_list : {L : Type 0} → (L → Option (List Entry)) → Following L → List Entry
+abbrev pub told_list : {L : Type 0} → (L → Option (List Entry)) → ReplicaView L → List Entry
 told_list applied f = if f.attached then unwrap_or (applied f.link) [] else []
 
 -- neither count has fallen, what followed before is lost only where one of them rose, and the link tells its list just
 -- where it did
 pub record KeepsOn {L : Type 0} (applied : L → Option (List Entry)) (faults refusals : L → ℕ)
-    (old new : Following L) : Type 0 where
+    (old new : ReplicaView L) : Type 0 where
   pub faults_later : faults old.link ≤ faults new.link
   pub refusals_later : refusals old.link ≤ refusals new.link
   pub kept : new.attached ≡ true → old.attached ≡ true
@@ -38,11 +38,11 @@ pub record KeepsOn {L : Type 0} (applied : L → Option (List Entry)) (faults re
   pub told : is_some (applied new.link) ≡ is_some (applied old.link)
 
 -- one that followed is lost only where some of these operations was sent
-abbrev pub IsLostBy : {L : Type 0} → (old new : Following L) → List TableOp → Type 0
+abbrev pub IsLostBy : {L : Type 0} → (old new : ReplicaView L) → List TableOp → Type 0
 IsLostBy old new ops = old.attached ≡ true → new.attached ≡ false → 1 ≤ length ops
 
 -- one that followed is lost only where the table is another then
-abbrev pub IsLostWith : {L : Type 0} → (old new : Following L) → (before now : Table) → Type 0
+abbrev pub IsLostWith : {L : Type 0} → (old new : ReplicaView L) → (before now : Table) → Type 0
 IsLostWith old new before now = old.attached ≡ true → new.attached ≡ false → now ≢ before
 
 -- how a fault of the link is told
@@ -52,14 +52,14 @@ over_fault link.NoMemory = over.NoMemory
 
 -- neither count of the link has fallen, and it tells its list just where it did
 pub record IsLater {L : Type 0} (applied : L → Option (List Entry)) (faults refusals : L → ℕ)
-    (old new : Following L) : Type 0 where
+    (old new : ReplicaView L) : Type 0 where
   pub faults_later : faults old.link ≤ faults new.link
   pub refusals_later : refusals old.link ≤ refusals new.link
   pub told : is_some (applied new.link) ≡ is_some (applied old.link)
 
 -- it follows as before, and would give the same
 pub record StillFollows {L : Type 0} (gives : L → List Entry) (applied : L → Option (List Entry))
-    (old new : Following L) : Type 0 where
+    (old new : ReplicaView L) : Type 0 where
   pub before : old.attached ≡ true
   pub now : new.attached ≡ true
   pub given : gives new.link ≡ gives old.link
@@ -68,7 +68,7 @@ pub record StillFollows {L : Type 0} (gives : L → List Entry) (applied : L →
 -- why no table was taken over from the replica: none followed, the link failed, what it gives isn't sound, or memory
 -- ran out, after which it may be asked again
 abbrev pub IsOverFault : {L : Type 0} → (faults : L → ℕ) → (gives : L → List Entry)
-    → (applied : L → Option (List Entry)) → (old new : Following L) → OverFault → Type 0
+    → (applied : L → Option (List Entry)) → (old new : ReplicaView L) → OverFault → Type 0
 IsOverFault faults gives applied old new over.NotAttached = (old.attached ≡ false) × (new ≡ old)
 IsOverFault faults gives applied old new over.Link =
     (old.attached ≡ true) × (new.attached ≡ false) × Rose (faults old.link) (faults new.link)

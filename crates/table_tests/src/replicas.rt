@@ -1,5 +1,5 @@
 ghost use Rattle.std.specs.Prelude.{◌≡◌, IfOk, IfSome};
-ghost use Rattle.replica_link.specs.Operations.{replica};
+ghost use Rattle.replica_link.specs.Operations.{after_ops};
 
 use enq_base::{Owner, Pattern, UnitKey, read_name};
 use lock_entry::{Entry, Mode};
@@ -16,7 +16,7 @@ fn given_after<L: Link>(
     snapshot: &[Entry],
     ops: &[TableOp],
 ) -> Result<Vec<Entry>, LinkFault>
-    ensures { IfOk result (λ list. IfSome (L.applied link.old) (λ _. list.items ≡ replica snapshot.now ops.now)) }
+    ensures { IfOk result (λ list. IfSome (L.applied link.old) (λ _. list.items ≡ after_ops snapshot.now ops.now)) }
 {
     link.attach(alloc, snapshot)?;
     let mut seq = 1;

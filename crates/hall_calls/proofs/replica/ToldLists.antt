@@ -1,6 +1,6 @@
 -- A link that tells its list hands over one whose locks may stand together.
-use Rattle.std.proofs.Common.{◌≡◌, ℕ, Bool, true, false, List, refl, sym, ap, ◌∙◌, subst}
-use Rattle.std.specs.Prelude.{if◌then◌else◌, nat_eq}
+use Rattle.std.proofs.Common.{◌≡◌, Bool, true, false, List, refl, sym, ap, ◌∙◌, subst}
+use Rattle.std.specs.Prelude.{if◌then◌else◌}
 use Rattle.enq_base.specs.declared.owner.UnitKey.{UnitKey}
 use Rattle.enq_base.specs.declared.refusal.Refusal.{Refusal}
 use Rattle.enq_base.specs.declared.refusal.Refusal.TheVariants as refusal
@@ -21,6 +21,8 @@ use Rattle.hall_model.specs.declared.command.Reply.TheVariants as reply
 use Rattle.model_laws.proofs.ByCall.{IsStray, OfEach, by_call}
 use Rattle.model_laws.proofs.PlainRefusals.{IsPlain}
 use Rattle.hall_calls.proofs.TestedLocks.{sound_of}
+use Rattle.ledger_steps.specs.declared.part.Part.{Part}
+use Rattle.ledger_steps.specs.Parts.{is_first}
 
 -- what a call finds of the replica's list
 told_so : (told : Bool) (list locks : List Entry) → told ≡ true → IsTold told (list ≡ locks) → list ≡ locks
@@ -56,11 +58,11 @@ plain_replica : (r : Refusal) → IsPlain r → is_unsound_replica (reply.Refuse
 plain_replica (refusal.Unsound found) plain = absurd (cc)
 plain_replica r plain = refl
 
-posted_replica : (part : ℕ) (unit : UnitKey) (o : Outcome) → is_unsound_replica (posted_reply part unit o) ≡ false
-posted_replica part unit outcome.Done = elim (nat_eq part 1) as (λ b. is_unsound_replica (if b then reply.Posted unit else reply.Closed unit) ≡ false)
+posted_replica : (part : Part) (unit : UnitKey) (o : Outcome) → is_unsound_replica (posted_reply part unit o) ≡ false
+posted_replica part unit outcome.Done = elim (is_first part) as (λ b. is_unsound_replica (if b then reply.Posted unit else reply.Closed unit) ≡ false)
     [ true ↦ refl | false ↦ refl ]
 posted_replica part unit (outcome.Refused index reason) =
-    elim (nat_eq part 1) as (λ b. is_unsound_replica (if b then reply.Bad unit index reason else reply.Bad2 unit index reason) ≡ false)
+    elim (is_first part) as (λ b. is_unsound_replica (if b then reply.Bad unit index reason else reply.Bad2 unit index reason) ≡ false)
     [ true ↦ refl | false ↦ refl ]
 
 good_verdict : (found : Found) (s : State) → IsTable (record { entries = s.locks; limit = s.limit }) → found.list ≡ s.locks

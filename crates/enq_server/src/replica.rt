@@ -2,7 +2,7 @@ ghost use Rattle.std.specs.Prelude.{◌≡◌, List, true, false, IfOk, OnOk, On
 ghost use Rattle.lock_entry.specs.declared.entry.Entry.{Entry};
 ghost use Rattle.replica_link.specs.Linking.{HasCauses, OnFailed, UnlessFailed};
 ghost use Rattle.replica_link.specs.Operations.{after_op};
-ghost use Rattle.enq_server.specs.Following.{IsAt, KeepsOn, StillFollows};
+ghost use Rattle.enq_server.specs.Replica.{IsAt, KeepsOn, StillFollows};
 
 use lock_entry::Entry;
 use replica_link::{Link, LinkFault, TableOp};
@@ -11,31 +11,31 @@ use std::marker::Model;
 
 /// A replica that follows the lock table, as long as no operation is lost on its way.
 #[derive(Drop)]
-pub struct Follower<L: Link> {
+pub struct Replica<L: Link> {
     link: L,
     alloc: Global,
     seq: u64,
     attached: bool,
 }
 
-impl<L: Link> Model for Follower<L> {
+impl<L: Link> Model for Replica<L> {
     ghost use Rattle.std.specs.Prelude.{◌≡◌, true, Some};
-    ghost use Rattle.enq_server.specs.Following.{Following};
+    ghost use Rattle.enq_server.specs.Replica.{ReplicaView};
 
-    ghost Value = { Following L };
+    ghost Value = { ReplicaView L };
 
     ghost view = { λ f. record { link = f.link; seq = f.seq; attached = f.attached } };
 
     ghost invariant = { λ f. f.attached ≡ true → L.next f.link ≡ Some f.seq };
 }
 
-impl<L: Link> Follower<L> {
+impl<L: Link> Replica<L> {
     /// A replica that doesn't follow yet. It takes no memory.
-    pub fn new(alloc: Global, link: L) -> Follower<L>
+    pub fn new(alloc: Global, link: L) -> Replica<L>
         ensures detached { result.attached ≡ false }
         ensures link { result.link ≡ link }
     {
-        Follower {
+        Replica {
             link,
             alloc,
             seq: 1,
@@ -130,7 +130,7 @@ impl<L: Link> Follower<L> {
     pub fn into_link(self) -> L
         ensures { result ≡ self.link }
     {
-        let Follower { link, .. } = self;
+        let Replica { link, .. } = self;
         link
     }
 }

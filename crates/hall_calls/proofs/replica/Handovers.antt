@@ -9,7 +9,7 @@ use Rattle.enq_base.specs.declared.condition.Condition.{Condition}
 use Rattle.enq_base.specs.declared.condition.Condition.TheVariants as condition
 use Rattle.enq_base.specs.declared.refusal.Refusal.{Refusal}
 use Rattle.enq_base.specs.declared.refusal.Refusal.TheVariants as refusal
-use Rattle.enq_server.specs.Following.{Following, IsOverFault, told_list}
+use Rattle.enq_server.specs.Replica.{IsOverFault, ReplicaView, told_list}
 use Rattle.enq_server.specs.Server.{larger, replicated}
 use Rattle.enq_server.specs.declared.fault.OverFault.{OverFault}
 use Rattle.enq_server.specs.declared.fault.OverFault.TheVariants as over
@@ -126,20 +126,20 @@ module _ (s : State) (none : s.condition ≡ condition.NoServer) (room : Admits 
         (ap (handing_as s list) (not_sound list never) ∙ ap (clashing s) at)
 
   -- what the lock server tells of it
-  module _ {L : Type 0} (faults : L → ℕ) (gives : L → List Entry) (applied : L → Option (List Entry)) (old new : Following L)
+  module _ {L : Type 0} (faults : L → ℕ) (gives : L → List Entry) (applied : L → Option (List Entry)) (old new : ReplicaView L)
       (locks : s.locks ≡ told_list applied old) (limit : s.limit ≡ (replicated s.max_locks (told_list applied old)).limit) (is : s.attached ≡ old.attached)
       (tells : s.link_told ≡ is_some (applied old.link)) (told : IfSome (applied old.link) (λ l. gives old.link ≡ l)) where
     pub given : old.attached ≡ true → IsTold s.link_told (gives old.link ≡ s.locks)
     given on = given_told s.link_told old.attached (applied old.link) (gives old.link) s.locks tells on locks told
 
     -- with what follows now
-    abbrev pub following : State
-    following = record s { attached = new.attached; locks = told_list applied new; limit = (replicated s.max_locks (told_list applied new)).limit }
+    abbrev pub with_replica : State
+    with_replica = record s { attached = new.attached; locks = told_list applied new; limit = (replicated s.max_locks (told_list applied new)).limit }
 
     -- that is as before
-    still : (r : Reply) → told_list applied new ≡ told_list applied old → new.attached ≡ old.attached → Comes s r → Comes following r
+    still : (r : Reply) → told_list applied new ≡ told_list applied old → new.attached ≡ old.attached → Comes s r → Comes with_replica r
     still r list now h =
-        at_state s command.FailOver s following r
+        at_state s command.FailOver s with_replica r
         (λ i. record s {
           attached = (is ∙ sym now) i;
           locks = (locks ∙ sym list) i;
@@ -147,17 +147,17 @@ module _ (s : State) (none : s.condition ≡ condition.NoServer) (room : Admits 
         }) h
 
     -- or none does
-    gone : (r : Reply) → new.attached ≡ false → Comes (detached s) r → Comes following r
+    gone : (r : Reply) → new.attached ≡ false → Comes (detached s) r → Comes with_replica r
     gone r off h =
         let list : told_list applied new ≡ [] = ap (λ b. if b then unwrap_or (applied new.link) [] else []) off in
         let table = bare ∙ ap (replicated s.max_locks) (sym list) in
-        at_state s command.FailOver (detached s) following r
+        at_state s command.FailOver (detached s) with_replica r
         (λ i. record s { attached = sym off i; locks = (table i).entries; limit = (table i).limit }) h
 
     pub not_over_so : (fault : OverFault) → IsTable (replicated s.max_locks []) → IsOverFault faults gives applied old new fault
-        → Comes following (reply.Refused (over_refusal fault))
+        → Comes with_replica (reply.Refused (over_refusal fault))
     not_over_so over.NotAttached good h =
-        still (reply.Refused refusal.NotAttached) (ap (told_list applied) h.1) (ap (λ (f : Following L). f.attached) h.1) (unattached (is ∙ h.0))
+        still (reply.Refused refusal.NotAttached) (ap (told_list applied) h.1) (ap (λ (f : ReplicaView L). f.attached) h.1) (unattached (is ∙ h.0))
     not_over_so over.Link good h = gone (reply.Refused refusal.LinkFault) h.1 (unlinked (is ∙ h.0))
     not_over_so (over.Clash first second) good h =
         gone (reply.Refused (refusal.Unsound (bad.Replica first second))) h.1
@@ -167,7 +167,7 @@ module _ (s : State) (none : s.condition ≡ condition.NoServer) (room : Admits 
         still (reply.Refused refusal.NoMemory) (λ i. if now i then unwrap_or (h.told i) [] else []) now (over_wanting (is ∙ h.before))
 
 -- that the link failed is told where its count of faults has risen
-pub over_cause : {L : Type 0} (faults : L → ℕ) (gives : L → List Entry) (applied : L → Option (List Entry)) (old new : Following L) (fault : OverFault)
+pub over_cause : {L : Type 0} (faults : L → ℕ) (gives : L → List Entry) (applied : L → Option (List Entry)) (old new : ReplicaView L) (fault : OverFault)
     (r : Refusal) → r ≡ over_refusal fault → IsOverFault faults gives applied old new fault → HasLinkCause (faults old.link) (faults new.link) (reply.Refused r)
 over_cause faults gives applied old new fault r is h =
     subst (λ x. HasLinkCause (faults old.link) (faults new.link) (reply.Refused x)) (sym is) (by_fault fault h)
@@ -179,7 +179,7 @@ over_cause faults gives applied old new fault r is h =
     by_fault over.NoMemory h = tt
 
 -- and two places where the list that it gave can't stand
-pub over_told : {L : Type 0} (faults : L → ℕ) (gives : L → List Entry) (applied : L → Option (List Entry)) (old new : Following L) (fault : OverFault)
+pub over_told : {L : Type 0} (faults : L → ℕ) (gives : L → List Entry) (applied : L → Option (List Entry)) (old new : ReplicaView L) (fault : OverFault)
     (r : Refusal) (locks : List Entry) → r ≡ over_refusal fault → IsOverFault faults gives applied old new fault
     → IsOver true locks (gives old.link) (reply.Refused r)
 over_told faults gives applied old new fault r locks is h =
