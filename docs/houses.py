@@ -13,7 +13,7 @@ import sys
 HOUSES = {
     "Words": (
         "names, keys, texts, modes, scopes, effects, numbers",
-        "enq_base byte_fields mode_rules owner_scope module_effects number_ranges turn_list",
+        "enq_base byte_fields mode_rules owner_scope module_effects business_rows number_ranges turn_list",
     ),
     "Devices": (
         "streams, disks, logs, keepers of rows",
@@ -41,8 +41,8 @@ HOUSES = {
     ),
     "Threads": (
         "a script done by threads, and what its history tells",
-        "order_laws past_laws script_actors order_workers whole_script turn_desks doubt_laws caller_laws rest_laws "
-        "actor_threads run_report thread_report thread_runner",
+        "order_laws past_laws script_actors order_workers whole_script turn_desks caller_laws "
+        "actor_threads run_report thread_runner",
     ),
     "Coverage": (
         "what a script lacks in locks",

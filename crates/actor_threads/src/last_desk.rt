@@ -29,7 +29,7 @@ impl<J: Origin, T: LockStore, K: Keeper, D: Disk, L: Link> OrderDesk for LastDes
 
     fn order(&mut self, worker: u8, command: Command) -> Look {
         let _ = worker;
-        let look = self.served.serve(self.alloc, 0, command);
+        let look = self.served.serve(self.alloc, 0, command, None);
         note(&mut self.full_at, &look.reply);
         look
     }

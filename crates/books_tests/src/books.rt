@@ -1,5 +1,6 @@
 mod calls;
 mod drawing;
+mod many;
 mod marks;
 mod numbers;
 mod posts;

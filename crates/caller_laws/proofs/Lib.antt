@@ -6,3 +6,11 @@ pub mod Marks
 pub mod OwnCalls
 pub mod Gathered
 pub mod Alone
+pub mod Splits
+pub mod LastCalls
+pub mod Histories
+pub mod LastLook
+pub mod Ending
+pub mod Entries
+pub mod Failing
+pub mod Causes

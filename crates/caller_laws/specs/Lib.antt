@@ -1,3 +1,4 @@
 pub mod Callers
 pub mod Seen
 pub mod Doing
+pub mod Rest

@@ -1,5 +1,5 @@
 -- The numbers that are committed stay right, whatever is called.
-use Rattle.std.proofs.Common.{◌≡◌, inl, inr, ℕ, ◌+◌, ◌-◌, ◌≤◌, ◌||◌, Bool, true, false, not, List, [], ◌∷◌, ◌++◌, Option, Some, None, refl, sym, subst, arith, append-nil}
+use Rattle.std.proofs.Common.{◌≡◌, inl, inr, ℕ, ◌+◌, ◌-◌, ◌≤◌, Bool, true, false, not, List, [], ◌∷◌, ◌++◌, Option, Some, None, refl, sym, subst, arith, append-nil}
 use Rattle.std.specs.Prelude.{Contains, if◌then◌else◌, nat_le, nat_lt}
 use Rattle.std.specs.FinMap.{empty, get-empty}
 use Rattle.std.proofs.lemmas.Bool.Decides.{nat_tests}
@@ -30,8 +30,8 @@ use Rattle.update_records.specs.declared.records.MarkKind.{MarkKind}
 use Rattle.update_records.specs.declared.records.MarkKind.TheVariants as mark
 use Rattle.hall_model.specs.declared.command.Command.{Command}
 use Rattle.hall_model.specs.declared.command.Session.{Session}
-use Rattle.hall_model.specs.Devices.{DeviceOutcome, Reading, found_by}
-use Rattle.hall_model.specs.History.{in_flight_after, is_unread, judged, served, takes_flight}
+use Rattle.hall_model.specs.Devices.{DeviceOutcome, found_by}
+use Rattle.hall_model.specs.History.{in_flight_after, judged, served, takes_flight}
 use Rattle.hall_model.specs.Kept.{IsDrawn, IsSteady}
 use Rattle.hall_model.specs.Numbers.{drawn, next_number, raised_to}
 use Rattle.hall_model.specs.Calls.{Call, call_of, only_reads}
@@ -189,11 +189,11 @@ served-agreed o s c may steady h flight =
     (λ read r. h)
 
 -- the change in flight where the store fails
-failing-agreed : (reading : Reading) (s : State) (call : Call) (v : Verdict) → OfInFlight s.in_flight Agrees → Agrees (judged s v).state.stored
-    → OfInFlight (in_flight_after reading s call v) Agrees
-failing-agreed reading s call (Refuses r) flight h = flight
-failing-agreed reading s call (Leaves after r) flight h =
-    elim (only_reads call || is_unread reading call) as (λ b. OfInFlight (if b then s.in_flight else Some after.stored) Agrees) [ true ↦ flight | false ↦ h ]
+failing-agreed : (s : State) (call : Call) (v : Verdict) → OfInFlight s.in_flight Agrees → Agrees (judged s v).state.stored
+    → OfInFlight (in_flight_after s call v) Agrees
+failing-agreed s call (Refuses r) flight h = flight
+failing-agreed s call (Leaves after r) flight h =
+    elim (only_reads call) as (λ b. OfInFlight (if b then s.in_flight else Some after.stored) Agrees) [ true ↦ flight | false ↦ h ]
 
 flight-agreed : (o : DeviceOutcome) (s : State) (c : Command) → MayCall s (call_of c) → IsSteady s → Agrees s.stored → OfInFlight s.in_flight Agrees
     → OfInFlight (served o s c).state.in_flight Agrees
@@ -202,7 +202,7 @@ flight-agreed o s c may steady h flight =
     (λ found. verdict_in_flight (λ o. OfInFlight o Agrees) found s (call_of c) flight tt) flight flight
     (λ reading.
     let found = found_by reading s in
-    failing-agreed reading s (call_of c) (call_verdict found s (call_of c)) flight (judged-agreed found s (call_of c) may steady h flight))
+    failing-agreed s (call_of c) (call_verdict found s (call_of c)) flight (judged-agreed found s (call_of c) may steady h flight))
     (λ reading. flight) (λ read r. flight)
 
 -- ---- states that calls lead to

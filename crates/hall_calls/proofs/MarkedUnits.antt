@@ -39,7 +39,7 @@ use Rattle.update_records.specs.Marks.{may_follow, status_of}
 use Rattle.update_records.specs.declared.records.MarkKind.{MarkKind}
 use Rattle.update_records.specs.declared.records.MarkKind.TheVariants.{Again1, Again2, Gone}
 use Rattle.hall_model.specs.Acts.{Admits, IsAct}
-use Rattle.hall_model.specs.Coming.{MayComeTo}
+use Rattle.hall_model.specs.Coming.{outcome_in}
 use Rattle.hall_model.specs.Kept.{HasGoodLocks}
 use Rattle.hall_model.specs.Orders.{order_for}
 use Rattle.hall_model.specs.Sessions.{owners_of}
@@ -376,27 +376,27 @@ reposts_as s entries ledger now limit unit f g m room h (Failed (Some (Note key 
     (reposts_in_doubt s ledger limit unit g m room h)
 reposts_as s entries ledger now limit unit f g m room h _ is = absurd is
 
-pub posts_as : (part : Part) (s : State) (told : Bool) (entries left : List Entry) (ledger now : Ledger) (worker : ℕ) (unit : UnitKey) (o : Outcome)
-    (kind : MarkKind) (said : Reply) → s.told ≡ told → (is_first part ≡ true → s.locks ≡ entries) → s.stored ≡ ledger
+pub posts_as : (part : Part) (s : State) (entries left : List Entry) (ledger now : Ledger) (worker : ℕ) (unit : UnitKey) (o : Outcome)
+    (kind : MarkKind) (said : Reply) → (is_first part ≡ true → s.locks ≡ entries) → s.stored ≡ ledger
     → Admits s (post_of part worker) → order_for part ledger s.orders worker ≡ Some unit → nat_le s.mark_limit (length ledger.marks) ≡ false
-    → MayComeTo told ledger part unit o → kind ≡ kind_for part o → said ≡ posted_reply part unit o → (w : Written)
+    → o ≡ outcome_in ledger part unit → kind ≡ kind_for part o → said ≡ posted_reply part unit o → (w : Written)
     → IsNoted ledger now entries left (is_first part) unit kind said w
     → IsWritten s (post_of part worker)
     (record s { orders = orders_behind s.orders worker w; locks = locks_posted part s.locks left; stored = now }) w
-posts_as part s told entries left ledger now worker unit o kind said t f g room found space may k r (Answered x) h =
+posts_as part s entries left ledger now worker unit o kind said f g room found space may k r (Answered x) h =
     subst (λ y. IsAct s (post_of part worker)
     (record s { orders = orders_behind s.orders worker (Answered y); locks = locks_posted part s.locks left; stored = now }) y) (sym (h.0 ∙ r))
-    (posts part s told s.orders (orders_behind s.orders worker (Answered (posted_reply part unit o))) entries left ledger now s.mark_limit worker unit o t
+    (posts part s s.orders (orders_behind s.orders worker (Answered (posted_reply part unit o))) entries left ledger now s.mark_limit worker unit o
     refl
     f g refl room found space may (posted_orders part unit o s.orders worker) h.2 (h.1 ∙ ap (with_mark ledger unit) k))
-posts_as part s told entries left ledger now worker unit o kind said t f g room found space may k r (Failed (Some (Note key noted))) h =
+posts_as part s entries left ledger now worker unit o kind said f g room found space may k r (Failed (Some (Note key noted))) h =
     subst (λ (st : Step). IsWritten s (post_of part worker)
     (record s { orders = s.orders; locks = locks_posted part s.locks left; stored = now }) (Failed (Some st)))
     (λ i. Note (sym h.0 i) (sym (h.1 ∙ k) i))
-    (posts_in_doubt part s told s.orders ledger s.mark_limit worker unit o t refl g refl room found space may)
-posts_as part s told entries left ledger now worker unit o kind said t f g room found space may k r Unfiled h =
-    posts_unfiled part s told s.orders ledger now s.mark_limit worker unit o h.1 t refl g refl room found space may (h.0 ∙ ap (with_mark ledger unit) k)
-posts_as part s told entries left ledger now worker unit o kind said t f g room found space may k r _ h = absurd h
+    (posts_in_doubt part s s.orders ledger s.mark_limit worker unit o refl g refl room found space may)
+posts_as part s entries left ledger now worker unit o kind said f g room found space may k r Unfiled h =
+    posts_unfiled part s s.orders ledger now s.mark_limit worker unit o h.1 refl g refl room found space may (h.0 ∙ ap (with_mark ledger unit) k)
+posts_as part s entries left ledger now worker unit o kind said f g room found space may k r _ h = absurd h
 
 -- ---- why nothing is posted
 

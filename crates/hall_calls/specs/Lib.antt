@@ -1,5 +1,6 @@
 pub mod Filing
 pub mod Commits
+pub mod Drafting
 pub mod Leaving
 pub mod Marking
 pub mod Named

@@ -3,6 +3,7 @@
 #![tactic(auto)]
 
 mod barring;
+mod drafting;
 mod locks;
 mod numbers;
 mod orders;

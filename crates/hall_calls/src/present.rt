@@ -1,3 +1,4 @@
+ghost use Rattle.hall_calls.specs.Drafting.{IsDraft};
 ghost use Rattle.hall_calls.specs.Remaking.{over_refusal};
 ghost use Rattle.std.specs.Prelude.{◌≡◌, ◌≢◌, ◌&&◌, ℕ, ◌+◌, List, [], if◌then◌else◌, true, false, length, replicate, Option, None, IfOk, IfSome, is_some, IsTrue};
 ghost use Rattle.std.specs.List.{All};
@@ -26,6 +27,7 @@ ghost use Rattle.hall_model.specs.Views.{marks_shown, numbers_shown, ranges_show
 ghost use Rattle.posting.specs.BooksView.{IsUsable};
 
 use crate::barring::{caller_refusal, down_refusal, server_refusal};
+use crate::drafting::draft_for;
 use crate::locks::lock;
 use crate::numbers::{NumberCall, draw, reserve};
 use crate::orders::{drop_order, take, waiting};
@@ -42,7 +44,7 @@ use ledger_laws::views_tell_refusals;
 use ledger_steps::Part;
 use lock_entry::{Entry, LockStore};
 use number_ranges::Range;
-use posting::Books;
+use posting::{Books, Draft, Worked};
 use range_list::Ranges;
 use replica_link::{Link, LinkFault};
 use std::alloc::Global;
@@ -161,6 +163,17 @@ impl<T: LockStore, K: Keeper, D: Disk, L: Link> Present<T, K, D, L> {
         ensures { result ≡ self.now.state.condition }
     {
         self.condition
+    }
+
+    /// What the V1 part is worked from that a worker has an order for: none where the server isn't up, or the worker
+    /// has no such order.
+    pub fn draft(&self, alloc: Global, worker: u8) -> Result<Option<Draft>, NoMemory>
+        ensures { IfOk result (IsDraft self.now.state worker) }
+    {
+        match self.condition {
+            Condition::Up => draft_for(alloc, self.orders.as_slice(), &self.books, worker),
+            Condition::NoServer | Condition::Doubt(_) => Ok(None),
+        }
     }
 
     /// Whether a replica follows the table, also where the lock server was ended. A doubt detaches it.
@@ -318,8 +331,15 @@ impl<T: LockStore, K: Keeper, D: Disk, L: Link> Present<T, K, D, L> {
         server_refusal(self.condition, command)
     }
 
-    /// Serves a call behind those of the past. It isn't put into the history.
-    pub fn serve(&mut self, alloc: Global, past: &Vec<PastEntry>, command: &Command) -> Answer
+    /// Serves a call behind those of the past. It isn't put into the history. What the V1 part of a unit came to
+    /// outside is taken by a post of it, where it still holds.
+    pub fn serve(
+        &mut self,
+        alloc: Global,
+        past: &Vec<PastEntry>,
+        command: &Command,
+        worked: Option<&Worked>,
+    ) -> Answer
         requires kept { IsKept (with_calls self.old.state past.now.items) }
         requires call { MayCall self.old.state (call_of command.now) }
         ensures call { IsTelling (with_calls self.old.state past.now.items) command.now result.taken
@@ -348,11 +368,17 @@ impl<T: LockStore, K: Keeper, D: Disk, L: Link> Present<T, K, D, L> {
         ensures good_replica { is_some (L.applied self.old.replica.link) ≡ true
             → is_unsound_replica result.reply ≡ false }
     {
-        self.answer(alloc, past, command)
+        self.answer(alloc, past, command, worked)
     }
 
     /// Answers a call, served or not.
-    fn answer(&mut self, alloc: Global, past: &Vec<PastEntry>, command: &Command) -> Answer
+    fn answer(
+        &mut self,
+        alloc: Global,
+        past: &Vec<PastEntry>,
+        command: &Command,
+        worked: Option<&Worked>,
+    ) -> Answer
         requires kept { IsKept (with_calls self.old.state past.now.items) }
         requires call { MayCall self.old.state (call_of command.now) }
         ensures { IsAnswered K.held K.may_leave K.faults D.tells D.faults L.gives L.applied L.faults L.refusals self.old
@@ -363,13 +389,19 @@ impl<T: LockStore, K: Keeper, D: Disk, L: Link> Present<T, K, D, L> {
             Some(refusal) => Answer::of(Reply::Refused(refusal)),
             None => match command {
                 Command::Restart => self.restart(alloc, past),
-                command => Answer::of(self.act(alloc, past, command)),
+                command => Answer::of(self.act(alloc, past, command, worked)),
             },
         }
     }
 
     /// Does a call that nothing bars, but for a restart.
-    fn act(&mut self, alloc: Global, past: &Vec<PastEntry>, command: &Command) -> Reply
+    fn act(
+        &mut self,
+        alloc: Global,
+        past: &Vec<PastEntry>,
+        command: &Command,
+        worked: Option<&Worked>,
+    ) -> Reply
         requires due { IsDue self.old.state past.now.items command.now }
         requires call { MayCall self.old.state (call_of command.now) }
         requires other { command.now ≢ Command.Restart }
@@ -380,12 +412,18 @@ impl<T: LockStore, K: Keeper, D: Disk, L: Link> Present<T, K, D, L> {
             Command::Kill => self.kill(past),
             Command::FailOver => self.fail_over(alloc, past),
             Command::Attach => self.attach(alloc, past),
-            command => self.attend(alloc, past, command),
+            command => self.attend(alloc, past, command, worked),
         }
     }
 
     /// Does a call of a session or of a worker, or one about a unit.
-    fn attend(&mut self, alloc: Global, past: &Vec<PastEntry>, command: &Command) -> Reply
+    fn attend(
+        &mut self,
+        alloc: Global,
+        past: &Vec<PastEntry>,
+        command: &Command,
+        worked: Option<&Worked>,
+    ) -> Reply
         requires due { IsDue self.old.state past.now.items command.now }
         requires call { MayCall self.old.state (call_of command.now) }
         requires no_kill { command.now ≢ Command.Kill }
@@ -425,9 +463,9 @@ impl<T: LockStore, K: Keeper, D: Disk, L: Link> Present<T, K, D, L> {
                 stock,
             } => self.commit(alloc, past, session, parts, stock.as_slice()),
             Command::Take1 { worker } => self.take(past, *worker, Part::V1),
-            Command::Do1 { worker } => self.post(alloc, past, *worker, Part::V1),
+            Command::Do1 { worker } => self.post(alloc, past, *worker, Part::V1, worked),
             Command::Take2 { worker } => self.take(past, *worker, Part::V2),
-            Command::Do2 { worker } => self.post(alloc, past, *worker, Part::V2),
+            Command::Do2 { worker } => self.post(alloc, past, *worker, Part::V2, None),
             Command::DropOrder { worker } => self.drop_order(past, *worker),
             Command::Cancel { unit } => self.cancel(alloc, past, *unit),
             Command::Resubmit { unit } => self.resubmit(alloc, past, *unit),
@@ -608,7 +646,14 @@ impl<T: LockStore, K: Keeper, D: Disk, L: Link> Present<T, K, D, L> {
     }
 
     /// Posts the part that a worker has an order for.
-    fn post(&mut self, alloc: Global, past: &Vec<PastEntry>, worker: u8, part: Part) -> Reply
+    fn post(
+        &mut self,
+        alloc: Global,
+        past: &Vec<PastEntry>,
+        worker: u8,
+        part: Part,
+        worked: Option<&Worked>,
+    ) -> Reply
         requires { IsDue self.old.state past.now.items (post_of part worker) }
         ensures { Serves K.held K.may_leave K.faults D.faults L.gives L.applied L.faults L.refusals self.old self.new
             past.now.items (post_of part worker) result }
@@ -625,6 +670,7 @@ impl<T: LockStore, K: Keeper, D: Disk, L: Link> Present<T, K, D, L> {
             &mut self.locks,
             &mut self.books,
             asked,
+            worked,
         );
         ended(
             &mut self.condition,

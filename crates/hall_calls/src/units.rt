@@ -1,4 +1,4 @@
-ghost use Rattle.std.specs.Prelude.{ℕ, ◌≡◌, ◌⊎◌, ◌≤◌, ◌<◌, ◌+◌, ◌^◌, ◌++◌, None, Ok, Some, Contains, IfErr, IfOk, IfSome, OnErr, OnOk, false, true, is_some, length, nat_le};
+ghost use Rattle.std.specs.Prelude.{ℕ, ◌≡◌, ◌⊎◌, ◌≤◌, ◌<◌, ◌+◌, ◌^◌, ◌++◌, None, Ok, Some, Contains, IfErr, IfOk, OnErr, OnOk, false, true, is_some, length, nat_le};
 ghost use Rattle.std.specs.List.{AllByRecursion};
 ghost use Rattle.enq_server.specs.Replica.{IsLostWith, KeepsOn};
 ghost use Rattle.enq_server.specs.Server.{of_user};
@@ -17,7 +17,6 @@ ghost use Rattle.hall_model.specs.Sessions.{owners_of};
 ghost use Rattle.hall_model.specs.State.{State};
 ghost use Rattle.hall_model.specs.Step as step;
 ghost use Rattle.hall_calls.specs.Storing.{EndsAs};
-ghost use Rattle.keeper_api.specs.Keeping.{HasFaultCause, IsWithin, UnlessFailed};
 ghost use Rattle.module_effects.specs.Effects.{applied};
 ghost use Rattle.hall_calls.specs.Filing.{ChangesLevels, FilesAs, FreesList, HasOpenLists, IsSaved, IsUnrefused, is_open, locks_ended, ungranted};
 ghost use Rattle.lock_entry.specs.Table.{IsTable, with_entries};
@@ -27,7 +26,7 @@ ghost use Rattle.update_records.specs.Growing.{with_mark, with_unit};
 ghost use Rattle.update_records.specs.Marks.{status_of};
 ghost use Rattle.hall_calls.specs.Remaking.{no_failure};
 ghost use Rattle.ledger_steps.specs.Parts.{is_first};
-ghost use Rattle.ledger_steps.specs.Posts.{MayCome, WaitsFor, effects_of, entries_of, kind_for};
+ghost use Rattle.ledger_steps.specs.Posts.{WaitsFor, effects_of, entries_of, kind_for};
 ghost use Rattle.posting.specs.BooksView.{IsReady, IsUnmoved, IsUsable};
 ghost use Rattle.ledger_steps.specs.Steps.{HasMarksLeft, IsDrawing, IsNewUnit, IsOutcome, MayGet};
 ghost use Rattle.ledger_steps.specs.Drawn.{AreDrawnRight, IsStock, drawn_of};
@@ -50,7 +49,7 @@ use hall_model::{Reply, Session};
 use keeper_api::{KeepFault, Keeper};
 use ledger_steps::{Outcome, Part, Step};
 use lock_entry::{Asker, Entry, LockStore, hand_over};
-use posting::{Books, Prepared};
+use posting::{Books, Prepared, Worked};
 use range_list::Ranges;
 use replica_link::Link;
 use std::alloc::Global;
@@ -148,22 +147,23 @@ struct SavedUnit {
 }
 
 /// Posts a part of the unit that a worker has an order for, or records where it is refused. With the V1 part the unit's
-/// locks end, in the backup file and then in the table, and the order goes.
+/// locks end, in the backup file and then in the table, and the order goes. What the part came to outside is taken
+/// where it still holds.
 pub(crate) fn post<T: LockStore, K: Keeper, D: Disk, L: Link>(
     alloc: Global,
     orders: &mut Vec<Option<UnitKey>>,
     locks: &mut EnqServer<T, D, L>,
     books: &mut Books<K>,
     call: PostCall,
+    worked: Option<&Worked>,
 ) -> Written
     requires usable { IsUsable K.held K.is_open books.old }
     requires limited { call.max_marks ≤ 1048576 }
     requires places { length orders.old.items ≡ 256 }
     requires filed { HasOpenLists D.tells D.reads D.may_leave books.old.ledger locks.old.file }
-    ensures act { (s : State) → s.told ≡ is_some (K.held books.old.keeper) → s.orders ≡ orders.old.items
+    ensures act { (s : State) → s.orders ≡ orders.old.items
         → (is_first call.part ≡ true → s.locks ≡ locks.old.table.entries)
-        → s.stored ≡ books.old.ledger → s.mark_limit ≡ call.max_marks → s.in_flight ≡ None
-        → Admits s (post_of call.part call.worker)
+        → s.stored ≡ books.old.ledger → s.mark_limit ≡ call.max_marks → Admits s (post_of call.part call.worker)
         → IsWritten s (post_of call.part call.worker)
         (record s {
           orders = orders.new.items;
@@ -188,7 +188,7 @@ pub(crate) fn post<T: LockStore, K: Keeper, D: Disk, L: Link>(
     ensures cause { HasStoreCause (K.faults books.old.keeper) (K.faults books.new.keeper) (written_reply result) }
     ensures kept { KeepsStore K.held K.may_leave books.old.keeper books.new.keeper (written_reply result) }
 {
-    let written = post_held(alloc, orders.as_slice(), locks, books, call);
+    let written = post_held(alloc, orders.as_slice(), locks, books, call, worked);
     end_order(orders, call.worker, &written);
     written
 }
@@ -211,14 +211,14 @@ fn post_held<T: LockStore, K: Keeper, D: Disk, L: Link>(
     locks: &mut EnqServer<T, D, L>,
     books: &mut Books<K>,
     call: PostCall,
+    worked: Option<&Worked>,
 ) -> Written
     requires usable { IsUsable K.held K.is_open books.old }
     requires limited { call.max_marks ≤ 1048576 }
     requires filed { HasOpenLists D.tells D.reads D.may_leave books.old.ledger locks.old.file }
-    ensures act { (s : State) → s.told ≡ is_some (K.held books.old.keeper) → s.orders ≡ orders.now
+    ensures act { (s : State) → s.orders ≡ orders.now
         → (is_first call.part ≡ true → s.locks ≡ locks.old.table.entries)
-        → s.stored ≡ books.old.ledger → s.mark_limit ≡ call.max_marks → s.in_flight ≡ None
-        → Admits s (post_of call.part call.worker)
+        → s.stored ≡ books.old.ledger → s.mark_limit ≡ call.max_marks → Admits s (post_of call.part call.worker)
         → IsWritten s (post_of call.part call.worker)
         (record s {
           orders = orders_behind s.orders call.worker result;
@@ -233,7 +233,7 @@ fn post_held<T: LockStore, K: Keeper, D: Disk, L: Link>(
     ensures store { EndsAs K.held K.is_open K.may_leave K.faults books.old books.new result }
 {
     match to_post(orders, books, call) {
-        Ok(unit) => post_unit(alloc, locks, books, unit, call.part),
+        Ok(unit) => post_unit(alloc, locks, books, unit, call.part, worked),
         Err(refusal) => Written::Answered(Reply::Refused(refusal)),
     }
 }
@@ -262,14 +262,14 @@ fn post_unit<T: LockStore, K: Keeper, D: Disk, L: Link>(
     books: &mut Books<K>,
     unit: UnitKey,
     part: Part,
+    worked: Option<&Worked>,
 ) -> Written
     requires usable { IsUsable K.held K.is_open books.old }
     requires marks { HasMarksLeft books.old.ledger }
     requires waits { WaitsFor part books.old.ledger unit }
     requires filed { HasOpenLists D.tells D.reads D.may_leave books.old.ledger locks.old.file }
-    ensures act { (s : State) (worker : ℕ) → s.told ≡ is_some (K.held books.old.keeper)
-        → (is_first part ≡ true → s.locks ≡ locks.old.table.entries)
-        → s.stored ≡ books.old.ledger → s.in_flight ≡ None → Admits s (post_of part worker)
+    ensures act { (s : State) (worker : ℕ) → (is_first part ≡ true → s.locks ≡ locks.old.table.entries)
+        → s.stored ≡ books.old.ledger → Admits s (post_of part worker)
         → claims.order_for part books.old.ledger s.orders worker ≡ Some unit
         → nat_le s.mark_limit (length books.old.ledger.marks) ≡ false
         → IsWritten s (post_of part worker)
@@ -285,10 +285,9 @@ fn post_unit<T: LockStore, K: Keeper, D: Disk, L: Link>(
     ensures file { FilesAs D.tells D.reads D.may_leave D.faults books.new.ledger locks.old.file locks.new.file result }
     ensures store { EndsAs K.held K.is_open K.may_leave K.faults books.old books.new result }
 {
-    let (prepared, outcome) = match prepare(alloc, books, &unit, part) {
+    let (prepared, outcome) = match prepare(alloc, books, &unit, part, worked) {
         Ok(ready) => ready,
-        Err(KeepFault::NoMemory) => return Written::Answered(Reply::Refused(Refusal::NoMemory)),
-        Err(KeepFault::Failed) => return Written::Failed(None),
+        Err(_) => return Written::Answered(Reply::Refused(Refusal::NoMemory)),
     };
     let noted = Noted {
         unit,
@@ -356,27 +355,24 @@ fn prepare<K: Keeper>(
     books: &mut Books<K>,
     unit: &UnitKey,
     part: Part,
-) -> Result<(Prepared, Outcome), KeepFault>
+    worked: Option<&Worked>,
+) -> Result<(Prepared, Outcome), NoMemory>
     requires usable { IsUsable K.held K.is_open books.old }
     requires marks { HasMarksLeft books.old.ledger }
     requires waits { WaitsFor part books.old.ledger unit.now }
     ensures ready { IfOk result (λ r. IsReady K.held K.has_room books.new r.0) }
     ensures step { IfOk result (λ r. r.0.step ≡ Note unit.now (kind_for part r.1)) }
-    ensures outcome { IfOk result
-        (λ r. IfSome (K.held books.old.keeper)
-        (λ _. IsOutcome (applied (effects_of part books.old.ledger.units unit.now)
-        (tables_of books.old.ledger.units books.old.ledger.marks)) r.1)) }
-    ensures possible { IfOk result (λ r. MayCome (effects_of part books.old.ledger.units unit.now) r.1) }
-    ensures usable { UnlessFailed result (IsUsable K.held K.is_open books.new) }
-    ensures unmoved { UnlessFailed result (IsUnmoved K.held K.may_leave K.faults books.old books.new) }
-    ensures ledger { books.new.ledger ≡ books.old.ledger }
-    ensures told { is_some (K.held books.new.keeper) ≡ is_some (K.held books.old.keeper) }
-    ensures crash { IsWithin (K.may_leave books.new.keeper) (K.may_leave books.old.keeper) }
-    ensures cause { HasFaultCause (K.faults books.old.keeper) (K.faults books.new.keeper) result }
+    ensures outcome { IfOk result (λ r. IsOutcome (applied (effects_of part books.old.ledger.units unit.now)
+        (tables_of books.old.ledger.units books.old.ledger.marks)) r.1) }
+    ensures usable { IsUsable K.held K.is_open books.new }
+    ensures unmoved { IsUnmoved K.held K.may_leave K.faults books.old books.new }
 {
     match part {
-        Part::V1 => books.prepare_post1(alloc, unit),
-        Part::V2 => books.prepare_post2(alloc, unit),
+        Part::V1 => books.prepare_post1(alloc, unit, worked),
+        Part::V2 => match books.prepare_post2(alloc, unit) {
+            Ok(ready) => Ok(ready),
+            Err(_) => Err(NoMemory),
+        },
     }
 }
 

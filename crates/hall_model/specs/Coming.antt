@@ -1,11 +1,11 @@
 -- What a part of a unit comes to.
-use Rattle.std.specs.Prelude.{◌≡◌, Bool, true, false, Result, Ok, Err}
+use Rattle.std.specs.Prelude.{Result, Ok, Err}
 use Rattle.enq_base.specs.declared.owner.UnitKey.{UnitKey}
 use Rattle.module_effects.specs.Effects.{applied}
 use Rattle.module_effects.specs.Rows.{Tables}
 use Rattle.module_effects.specs.declared.fault.EffectFault.{EffectFault}
 use Rattle.module_effects.specs.declared.fault.EffectFault.TheVariants as effect
-use Rattle.ledger_steps.specs.Posts.{MayCome, effects_of}
+use Rattle.ledger_steps.specs.Posts.{effects_of}
 use Rattle.ledger_steps.specs.declared.step.Outcome.{Outcome}
 use Rattle.ledger_steps.specs.declared.step.Outcome.TheVariants.{Done, Refused}
 use Rattle.update_records.specs.Business.{tables_of}
@@ -22,9 +22,3 @@ outcome_of (Err effect.NoMemory) = Done
 abbrev pub outcome_in : Ledger → Part → UnitKey → Outcome
 outcome_in ledger part key =
     outcome_of (applied (effects_of part ledger.units key) (tables_of ledger.units ledger.marks))
-
--- The outcome is that in the tables which the marks have made. Where the store doesn't tell its rows, it is that in
--- some tables.
-abbrev pub MayComeTo : Bool → Ledger → Part → UnitKey → Outcome → Type 0
-MayComeTo true ledger part key outcome = outcome ≡ outcome_in ledger part key
-MayComeTo false ledger part key outcome = MayCome (effects_of part ledger.units key) outcome

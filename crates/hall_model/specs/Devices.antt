@@ -16,7 +16,6 @@ use Rattle.lock_entry.specs.Table.{IsTable}
 use Rattle.lock_entry.specs.declared.entry.Entry.{Entry}
 use Rattle.ledger_steps.specs.Posts.{entries_of}
 use Rattle.update_records.specs.Marks.{has_status, status_of}
-use Rattle.ledger_steps.specs.declared.step.Outcome.{Outcome}
 use Rattle.hall_model.specs.declared.command.Command.{Command}
 use Rattle.hall_model.specs.Calls.{AdminCall, Kills, FailsOver, Restarts, Attaches, Cancels, Resubmits, Call, LogsOn}
 use Rattle.hall_model.specs.Calls.{OfSession, OfWorker, OfAdmin, WorkerCall, Posts, SessionCall, LogsOff, Frees}
@@ -28,7 +27,6 @@ use Rattle.number_ranges.specs.Intervals.{is_buffered}
 use Rattle.ledger_steps.specs.Levels.{present, range_at}
 use Rattle.ledger_steps.specs.declared.range.NumberRange.{NumberRange}
 use Rattle.std.specs.Option.{option_map_or}
-use Rattle.hall_model.specs.Coming.{MayComeTo}
 use Rattle.hall_model.specs.Kept.{IsInFlight}
 use Rattle.hall_model.specs.OpenUnits.{waits_with_locks}
 use Rattle.hall_model.specs.Orders.{order_for}
@@ -37,14 +35,11 @@ use Rattle.hall_model.specs.Stocks.{MayCall}
 use Rattle.hall_model.specs.Step.{Found, Verdict, Refuses, Leaves, call_verdict, effects_in, found_in, leaves, row_in}
 use Rattle.hall_model.specs.Step.{to_resubmit, unavailable}
 use Rattle.ledger_steps.specs.Parts.{is_first}
-use Rattle.ledger_steps.specs.declared.part.Part.{Part}
 
 -- what a device gave that the state doesn't tell
 pub data Reading : Type 0 where
   -- all that was read is as the state tells it
   AsKnown : Reading
-  -- a part of a unit came to this in the rows of the store
-  Comes : Outcome → Reading
   -- a row has this text, or isn't there
   Shows : Option (List ℕ) → Reading
   -- a restart read the store anew, and has found the change in flight, or not
@@ -112,7 +107,6 @@ only event = record { event = event; reading = AsKnown; lost = false }
 -- what a call finds, by what the devices gave
 abbrev pub found_by : Reading → State → Found
 found_by AsKnown s = found_in s
-found_by (Comes outcome) s = record (found_in s) { part = λ part unit. outcome }
 found_by (Shows text) s = record (found_in s) { row = λ table key. text }
 found_by (Reopens taken) s = record (found_in s) { anew = Some taken }
 found_by (Hands list) s = record (found_in s) { list = list }
@@ -123,11 +117,6 @@ found_by (Hands list) s = record (found_in s) { list = list }
 abbrev pub IsTold : Bool → Type 0 → Type 0
 IsTold true P = P
 IsTold false P = Unit {0}
-
--- the part of the unit that the worker has an order for may come to this
-abbrev pub MayPost : Part → Outcome → State → ℕ → Type 0
-MayPost part outcome s worker =
-    IfSome (order_for part s.stored s.orders worker) (λ unit. MayComeTo s.told s.stored part unit outcome)
 
 -- it is as it was known before, if it was
 abbrev pub IsAsBefore : Option Bool → Bool → Type 0
@@ -140,7 +129,6 @@ pub record MayFind (s : State) (taken : Bool) : Type 0 where
 
 abbrev pub MayRead : Reading → State → Call → Type 0
 MayRead AsKnown s call = Unit {0}
-MayRead (Comes outcome) s (OfWorker worker (Posts part)) = MayPost part outcome s worker
 MayRead (Shows text) s (OfSession session (Reads table key)) = IsTold s.told (text ≡ row_in s.stored table key)
 MayRead (Reopens taken) s (OfAdmin Restarts) = MayFind s taken
 MayRead (Hands list) s (OfAdmin FailsOver) = IsTold s.link_told (list ≡ s.locks)

@@ -1,5 +1,5 @@
 -- A call with what the devices did in it, and the history that calls make.
-use Rattle.std.specs.Prelude.{◌≡◌, ◌⊎◌, ℕ, ◌+◌, ◌||◌, ◌&&◌, not, Bool, true, false, if◌then◌else◌, List, [], ◌∷◌, ◌++◌}
+use Rattle.std.specs.Prelude.{◌≡◌, ◌⊎◌, ℕ, ◌+◌, ◌&&◌, not, Bool, true, false, if◌then◌else◌, List, [], ◌∷◌, ◌++◌}
 use Rattle.std.specs.Prelude.{length, Option, Some, None, IsTrue}
 use Rattle.enq_base.specs.declared.condition.Condition.TheVariants as condition
 use Rattle.enq_base.specs.declared.refusal.Refusal.{Refusal}
@@ -11,10 +11,10 @@ use Rattle.hall_model.specs.declared.command.PastEntry.{PastEntry}
 use Rattle.hall_model.specs.declared.command.Reply.{Reply}
 use Rattle.hall_model.specs.declared.command.Reply.TheVariants as reply
 use Rattle.hall_model.specs.declared.command.Session.{Session}
-use Rattle.hall_model.specs.Calls.{Call, OfSession, OfWorker, Commits, Posts, call_of, only_reads, who_of}
+use Rattle.hall_model.specs.Calls.{Call, OfSession, Commits, call_of, only_reads, who_of}
 use Rattle.hall_model.specs.Calls.{writes_store_first}
 use Rattle.hall_model.specs.Devices.{DeviceOutcome, Event, AllWell, Wanting, StoreFails, BackupFails, LinkFails}
-use Rattle.hall_model.specs.Devices.{NotRemade, IsAllowed, fault_told, found_by, Reading, AsKnown, Comes, Shows}
+use Rattle.hall_model.specs.Devices.{NotRemade, IsAllowed, fault_told, found_by, Reading, AsKnown, Shows}
 use Rattle.hall_model.specs.Devices.{Reopens, Hands}
 use Rattle.hall_model.specs.Numbers.{stocked}
 use Rattle.hall_model.specs.Sessions.{with_marks}
@@ -78,17 +78,11 @@ abbrev pub without_stock : Call → State → State
 without_stock (OfSession session (Commits parts stock)) s = stocked stock s
 without_stock call s = s
 
--- the rows weren't read by which a part of a unit is posted
-abbrev pub is_unread : Reading → Call → Bool
-is_unread AsKnown (OfWorker worker (Posts part)) = true
-is_unread reading call = false
-
--- What the store may have where it fails: the change that the call makes, or where it makes none what was in flight
--- before. A post makes none before it has read.
-abbrev pub in_flight_after : Reading → State → Call → Verdict → Option Ledger
-in_flight_after reading s call (Refuses r) = s.in_flight
-in_flight_after reading s call (Leaves after r) =
-    if only_reads call || is_unread reading call then s.in_flight else Some after.stored
+-- what the store may have where it fails: the change that the call makes, or where it makes none what was in flight
+-- before
+abbrev pub in_flight_after : State → Call → Verdict → Option Ledger
+in_flight_after s call (Refuses r) = s.in_flight
+in_flight_after s call (Leaves after r) = if only_reads call then s.in_flight else Some after.stored
 
 -- the disk failed: the mark of a post or of a cancelling stands already, and of any other call there is none
 abbrev pub unfiled : State → Call → Option Bool → Ledger → State
@@ -108,7 +102,7 @@ abbrev pub ends_in : Event → Reading → State → Call → Verdict → Served
 ends_in AllWell reading s call v = judged s v
 ends_in Wanting reading s call v = refused s refusal.NoMemory
 ends_in StoreFails reading s call v =
-    refused (doubted (without_stock call s) call None (in_flight_after reading s call v)) refusal.StoreFault
+    refused (doubted (without_stock call s) call None (in_flight_after s call v)) refusal.StoreFault
 ends_in BackupFails reading s call v = refused (unfiled s call (read_anew reading) (stored_before_file s call v))
     refusal.BackupFault
 ends_in LinkFails reading s call v = refused (detached s) refusal.LinkFault
@@ -136,7 +130,6 @@ IsGiven made given = (given ≡ made) ⊎ (IsTrue (is_row made) × (given ≡ re
 -- a restart has found the change in flight in the store
 abbrev pub finds_flight : Reading → Bool
 finds_flight AsKnown = false
-finds_flight (Comes outcome) = false
 finds_flight (Shows text) = false
 finds_flight (Reopens taken) = taken
 finds_flight (Hands list) = false

@@ -79,9 +79,8 @@ abbrev pub unless_refused : Option Refusal → Verdict → Verdict
 unless_refused None v = v
 unless_refused (Some r) v = Refuses r
 
--- What the devices give where a call reads them: what a part of a unit comes to in the rows of the store, the text of a
--- row, where a restart read the store anew, whether the change in flight is in it, and the list that the link handed
--- over.
+-- What a part of a unit comes to in the rows, and what the devices give where a call reads them: the text of a row,
+-- where a restart read the store anew, whether the change in flight is in it, and the list that the link handed over.
 pub record Found : Type 0 where
   pub part : Part → UnitKey → Outcome
   pub row : List ℕ → List ℕ → Option (List ℕ)

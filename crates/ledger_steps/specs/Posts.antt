@@ -1,6 +1,6 @@
 -- What a part of a unit makes of the business rows, and the changes that write it.
 use Rattle.std.specs.Prelude.{◌≡◌, ℕ, List, [], ◌∷◌, ◌++◌, map, Option, Some, None, Ok, Err, if◌then◌else◌}
-use Rattle.std.specs.List.{All, IsDistinct}
+use Rattle.std.specs.List.{IsDistinct}
 use Rattle.std.specs.FinMap.{get}
 use Rattle.std.specs.Option.{option_map_or}
 use Rattle.std.specs.Ordering.{eq_by_cmp}
@@ -28,7 +28,7 @@ use Rattle.update_records.specs.declared.records.MarkKind.TheVariants.{V2, Bad2}
 use Rattle.update_records.specs.declared.records.Unit.{Unit as UnitOfWork}
 use Rattle.ledger_steps.specs.Parts.{is_first}
 use Rattle.ledger_steps.specs.declared.part.Part.{Part}
-use Rattle.ledger_steps.specs.Steps.{IsOutcome, post_kind}
+use Rattle.ledger_steps.specs.Steps.{post_kind}
 use Rattle.ledger_steps.specs.declared.step.Outcome.{Outcome}
 use Rattle.ledger_steps.specs.declared.step.Outcome.TheVariants.{Done, Refused}
 
@@ -57,10 +57,6 @@ post2_kind (Refused index reason) = Bad2 index reason
 abbrev pub kind_for : Part → Outcome → MarkKind
 kind_for part outcome = if is_first part then post_kind outcome else post2_kind outcome
 
--- the outcome of a part whatever the rows are: that of applying it to some tables
-abbrev pub MayCome : List Effect → Outcome → Type 0
-MayCome effects outcome = (tables : Tables) × IsOutcome (applied effects tables) outcome
-
 -- ---- reading
 
 -- bytes that are no text count as no row
@@ -71,10 +67,6 @@ text_in (Some bytes) = all_if is_text bytes
 -- the text of a business row
 abbrev pub text_at : Rows → RowName → Option (List ℕ)
 text_at rows name = text_in (value_at rows 6 (row_name name))
-
--- each spot has what the store has in its row
-abbrev pub AreRead : Rows → List Spot → Type 0
-AreRead rows spots = All (λ spot. spot.text ≡ text_at rows (row_at spot)) spots
 
 -- no row has two spots
 abbrev pub HasDistinctRows : List Spot → Type 0

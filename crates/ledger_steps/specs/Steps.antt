@@ -10,6 +10,7 @@ use Rattle.enq_base.specs.declared.unit.Status.TheVariants.{Open, Posted}
 use Rattle.keeper_api.specs.declared.rows.Change.{Change}
 use Rattle.lock_entry.specs.Names.{has_distinct_names}
 use Rattle.module_effects.specs.Rows.{Tables}
+use Rattle.module_effects.specs.declared.spot.Spot.{Spot}
 use Rattle.module_effects.specs.declared.fault.EffectFault.{EffectFault}
 use Rattle.module_effects.specs.declared.fault.EffectFault.TheVariants as effect_fault
 use Rattle.update_records.specs.declared.records.MarkKind.{MarkKind}
@@ -27,9 +28,10 @@ use Rattle.ledger_steps.specs.declared.step.Step.TheVariants.{Start, Record, Not
 use Rattle.ledger_steps.specs.Parts.{is_first}
 use Rattle.ledger_steps.specs.declared.part.Part.{Part}
 
--- a change of the rows, and the step that it stands for
+-- a change of the rows, the business rows that it leaves, and the step that it stands for
 pub record Plan : Type 0 where
   pub batch : List Change
+  pub rows : List Spot
   pub step : Step
 
 -- the ledger after a step

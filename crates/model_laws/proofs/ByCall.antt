@@ -478,9 +478,9 @@ by_doubt Q found s n call down refuse anew =
     (λ c off. in_doubt_refused (Q c) found s n c down off (refuse c)) call
 
 -- where the store fails in doubt the change in flight stays the one before
-pub in_flight_stays : (reading : Reading) (found : Found) (s : State) (n : ℕ) (call : Call) → s.condition ≡ condition.Doubt n
-    → in_flight_after reading s call (call_verdict found s call) ≡ s.in_flight
-in_flight_stays reading found s n call down = by_doubt (λ c v. in_flight_after reading s c v ≡ s.in_flight) found s n call down (λ c r. refl) refl
+pub in_flight_stays : (found : Found) (s : State) (n : ℕ) (call : Call) → s.condition ≡ condition.Doubt n
+    → in_flight_after s call (call_verdict found s call) ≡ s.in_flight
+in_flight_stays found s n call down = by_doubt (λ c v. in_flight_after s c v ≡ s.in_flight) found s n call down (λ c r. refl) refl
 
 -- numbers of a stock aren't handed out again, and any other call leaves the ranges
 pub by_stock : (Q : Call → State → Type 0) (s : State)
@@ -509,7 +509,7 @@ pub by_event : (Q : Served → Type 0) (o : DeviceOutcome) (s : State) (c : Comm
     → Q (refused s refusal.NoMemory)
     → Q (refused (detached s) refusal.LinkFault)
     → ((reading : Reading) → Q (refused (doubted (without_stock (call_of c) s) (call_of c) None
-    (in_flight_after reading s (call_of c) (verdict (found_by reading s) s c))) refusal.StoreFault))
+    (in_flight_after s (call_of c) (verdict (found_by reading s) s c))) refusal.StoreFault))
     → ((reading : Reading) → Q (refused (unfiled s (call_of c) (read_anew reading)
     (stored_before_file s (call_of c) (verdict (found_by reading s) s c))) refusal.BackupFault))
     → ((read : Option Bool) (r : Refusal) → Q (refused (doubted s (call_of c) read s.in_flight) r)) → Q (served o s c)

@@ -3,7 +3,7 @@ use Rattle.std.proofs.Common.{◌≡◌, ℕ, Bool, true, false, refl, sym}
 use Rattle.std.proofs.lemmas.Bool.{false≢true}
 use Rattle.std.specs.Prelude.{if◌then◌else◌}
 use Rattle.hall_model.specs.Calls.{Kills, FailsOver, Restarts, Attaches, Cancels, Resubmits, Call, LogsOn, OfSession, OfWorker, OfAdmin, restarts}
-use Rattle.hall_model.specs.Devices.{MayRead, Reading, AsKnown, Comes, Shows, Reopens, Hands}
+use Rattle.hall_model.specs.Devices.{MayRead, Reading, AsKnown, Shows, Reopens, Hands}
 use Rattle.hall_model.specs.History.{Served, finds_flight, is_unrecorded, noted, with_entry}
 use Rattle.hall_model.specs.State.{State}
 use Rattle.hall_model.specs.declared.command.Command.{Command}
@@ -31,7 +31,6 @@ reads_anew taken s (OfAdmin (Resubmits unit)) off may = may
 
 pub finds_none : (reading : Reading) (s : State) (call : Call) → restarts call ≡ false → MayRead reading s call → finds_flight reading ≡ false
 finds_none AsKnown s call off may = refl
-finds_none (Comes outcome) s call off may = refl
 finds_none (Shows text) s call off may = refl
 finds_none (Reopens taken) s call off may = absurd (reads_anew taken s call off may)
 finds_none (Hands list) s call off may = refl

@@ -197,7 +197,7 @@ note_stands rows ledger key kind spots few may fields distinct note h =
 pub note_makes : (held : Option Rows) (ledger : Ledger) (key : UnitKey) (kind : MarkKind) (spots : List Spot) (batch : List Change) (start : ℕ) (m : Mark)
     → HasMarksLeft ledger → MayGet ledger key kind → HasFields kind → HasDistinctRows spots
     → start ≡ ledger.start → m ≡ next_mark ledger key kind → batch ≡ note_changes start spots m
-    → IfSome held (λ _. IsNote ledger (next_mark ledger key kind) spots) → IfSome held (λ rows. StandFor rows ledger)
+    → IsNote ledger (next_mark ledger key kind) spots → IfSome held (λ rows. StandFor rows ledger)
     → IfSome held (λ rows. StandFor (changed batch rows) (with_mark ledger key kind))
 note_makes None ledger key kind spots batch start m few may fields distinct s is made note h = tt
 note_makes (Some rows) ledger key kind spots batch start m few may fields distinct s is made note h =

@@ -12,5 +12,7 @@ pub mod FoundLedger
 pub mod LaterStart
 pub mod ReadyPlans
 pub mod WrittenBooks
+pub mod LeftRows
 pub mod AppliedParts
+pub mod WorkedParts
 pub mod lemmas

@@ -4,17 +4,21 @@ use Rattle.keeper_api.specs.declared.rows.Change.{Change}
 use Rattle.keeper_api.specs.Rows.{Rows}
 use Rattle.keeper_api.specs.Batch.{changed}
 use Rattle.keeper_api.specs.Keeping.{IsWithin}
+use Rattle.module_effects.specs.Spots.{with_spots}
 use Rattle.update_records.specs.Ledger.{Ledger, StandFor}
 use Rattle.ledger_steps.specs.Steps.{Plan, after_step, intervals_in, IsDrawing, IsNewUnit, HasMarksLeft, MayGet}
+use Rattle.posting.specs.Mirrors.{business}
 use Rattle.ledger_steps.specs.declared.step.Step.{Step}
 use Rattle.ledger_steps.specs.declared.step.Step.TheVariants.{Start, Record, Note, Draw, Level}
 
--- the ledger, the keeper of its rows, and how many more units and marks, and how many more intervals, take no memory
+-- the ledger, the keeper of its rows, and how many more units and marks, how many more intervals, and how many more
+-- business rows, take no memory
 pub record BooksView (K : Type 0) : Type 0 where
   pub ledger : Ledger
   pub keeper : K
   pub room : ℕ
   pub spare : ℕ
+  pub places : ℕ
 
 -- calls are allowed, and where the keeper tells its rows they stand for the ledger
 pub record IsUsable {K : Type 0} (held : K → Option Rows) (is_open : K → Type 0) (shelf : BooksView K) : Type 0 where
@@ -37,15 +41,18 @@ MayTake ledger (Note key kind) = HasMarksLeft ledger × MayGet ledger key kind
 MayTake ledger (Draw key numbers levels) = HasMarksLeft ledger × IsDrawing ledger key numbers
 MayTake ledger (Level interval) = Unit {0}
 
--- the plan can be written: there is room for it, and it makes the rows of the ledger after its step
+-- the plan can be written: there is room for it, and it makes the rows of the ledger after its step, in the store and
+-- in memory
 pub record IsReady {K : Type 0} (held : K → Option Rows) (has_room : K → List Change → Type 0) (shelf : BooksView K)
     (plan : Plan) : Type 0 where
   pub kept : has_room shelf.keeper plan.batch
   pub space : 1 ≤ shelf.room
   pub spare : length (intervals_in plan.step) ≤ shelf.spare
+  pub places : length plan.rows ≤ shelf.places
   pub step : MayTake shelf.ledger plan.step
   pub makes : IfSome (held shelf.keeper)
       (λ rows. StandFor (changed plan.batch rows) (after_step shelf.ledger plan.step))
+  pub leaves : business (after_step shelf.ledger plan.step) ≡ with_spots plan.rows (business shelf.ledger)
 
 -- these rows may be left: they stand for the ledger before a step or after it
 abbrev pub StandForEither : Rows → Ledger → Step → Type 0

@@ -1,7 +1,9 @@
 pub mod Registers
 pub mod Turns
 pub mod Standings
+pub mod Mirrors
 pub mod BooksView
+pub mod Drafts
 pub mod Restoring
 pub mod Opening
 pub mod Reopening

@@ -6,10 +6,10 @@ ghost use Rattle.update_records.specs.RecordRows.{Level as StoredLevel};
 ghost use Rattle.ledger_steps.specs.Intervals.{in_row_order, MayStore};
 ghost use Rattle.enq_base.specs.Causes.{HasCause};
 ghost use Rattle.keeper_api.specs.Batch.{changed, IsBatch};
-ghost use Rattle.keeper_api.specs.Keeping.{IsWithin, HasFaultCause, Stays, UnlessFailed};
+ghost use Rattle.keeper_api.specs.Keeping.{IsWithin, HasFaultCause, UnlessFailed};
 ghost use Rattle.keeper_api.specs.Rows.{Rows};
 ghost use Rattle.module_effects.specs.Effects.{applied};
-ghost use Rattle.module_effects.specs.Rows.{Tables};
+ghost use Rattle.module_effects.specs.Spots.{with_spots};
 ghost use Rattle.update_records.specs.Ledger.{StandFor};
 ghost use Rattle.update_records.specs.Growing.{next_mark, with_start};
 ghost use Rattle.update_records.specs.Marks.{status_of, v1_of, v2_of};
@@ -17,9 +17,11 @@ ghost use Rattle.posting.specs.Opening.{CountsFault, OnBad, OnRefused, IsRaiseFa
 ghost use Rattle.ledger_steps.specs.Starts.{raised, IsRaised};
 ghost use Rattle.posting.specs.Numbers.{AreNumbersRight};
 ghost use Rattle.ledger_steps.specs.Parts.{is_first, part_at};
-ghost use Rattle.ledger_steps.specs.Posts.{HasDistinctRows, HoldsTables, IsNote, IsPost, MayCome, WaitsFor, effects_of, entries_of, kind_for, post2_kind};
+ghost use Rattle.ledger_steps.specs.Posts.{HasDistinctRows, IsNote, IsPost, WaitsFor, effects_of, entries_of, kind_for, post2_kind};
 ghost use Rattle.posting.specs.Reopening.{HasStood, IsOpeningFault, MayBeLeftBy, MayBeOpeningFault};
 ghost use Rattle.store_reading.specs.Good.{IsSound, ledger_of};
+ghost use Rattle.posting.specs.Drafts.{IsDrafted};
+ghost use Rattle.posting.specs.Mirrors.{business};
 ghost use Rattle.posting.specs.BooksView.{IsUsable, IsUnmoved, IsReady, MayTake, StandForEither};
 ghost use Rattle.posting.specs.Settling.{CountsSettling, IsSettled, OnBooks, OnFound, OnOther, StandForOther};
 ghost use Rattle.ledger_steps.specs.Errors.{error_of};
@@ -28,11 +30,12 @@ ghost use Rattle.ledger_steps.specs.Views.{open_locks, views_of};
 ghost use Rattle.ledger_steps.specs.declared.step.Step.TheVariants.{Record, Note, Start, Draw, Level};
 
 use crate::batch::{draw_batch, level_batch, mark_behind, note_batch, start_batch, unit_batch};
-use crate::opening::{BooksFault, open_register};
+use crate::draft::{Draft, Worked, post};
+use crate::mirror::Mirror;
+use crate::opening::{BooksFault, open_mirror};
 use crate::prepared::Prepared;
-use crate::register::Register;
 use crate::settling::{Reread, SettleFault, found_anew};
-use crate::spots::{apply_to_store, read_text};
+use crate::spots::read_text;
 use crate::viewing;
 use enq_base::{
     Effect, Failed, Items, Key, Name, NoMemory, Num, Parts, Reason, Status, Text, UnitKey,
@@ -48,7 +51,7 @@ use update_records::{Mark, MarkKind, StoredInterval, Unit, UnitView};
 /// The books of update units, and the keeper of their rows (Updates in the SAP System).
 #[derive(Drop)]
 pub struct Books<K: Keeper> {
-    register: Register,
+    mirror: Mirror,
     keeper: K,
 }
 
@@ -62,8 +65,13 @@ impl<K: Keeper> Model for Books<K> {
 
     ghost coded = { Prim.hlevel (codes, levels_code, K.code) };
 
-    ghost view = { λ b. record
-        { ledger = b.register.ledger; keeper = b.keeper; room = b.register.room; spare = b.register.spare } };
+    ghost view = { λ b. record {
+      ledger = b.mirror.ledger;
+      keeper = b.keeper;
+      room = b.mirror.room;
+      spare = b.mirror.spare;
+      places = b.mirror.places;
+    } };
 }
 
 impl<K: Keeper> Books<K> {
@@ -93,11 +101,11 @@ impl<K: Keeper> Books<K> {
         ensures cause { IfErr result (λ e. CountsFault e.0 (K.faults keeper) (K.faults e.1)) }
     {
         let mut keeper = keeper;
-        let register = match open_register(alloc, &mut keeper) {
-            Ok(register) => register,
+        let mirror = match open_mirror(alloc, &mut keeper) {
+            Ok(mirror) => mirror,
             Err(fault) => return Err((fault, keeper)),
         };
-        let mut books = Books { register, keeper };
+        let mut books = Books { mirror, keeper };
         if !raise {
             return Ok(books);
         }
@@ -130,11 +138,11 @@ impl<K: Keeper> Books<K> {
         ensures cause { IfErr result
             (λ fault. CountsFault fault (K.faults self.old.keeper) (K.faults self.new.keeper)) }
     {
-        let register = match open_register(alloc, &mut self.keeper) {
-            Ok(register) => register,
+        let mirror = match open_mirror(alloc, &mut self.keeper) {
+            Ok(mirror) => mirror,
             Err(fault) => return Err(fault),
         };
-        self.register = register;
+        self.mirror = mirror;
         Ok(())
     }
 
@@ -169,11 +177,11 @@ impl<K: Keeper> Books<K> {
         ensures cause { IfErr result
             (λ fault. CountsSettling fault (K.faults self.old.keeper) (K.faults self.new.keeper)) }
     {
-        let register = match open_register(alloc, &mut self.keeper) {
-            Ok(register) => register,
+        let mirror = match open_mirror(alloc, &mut self.keeper) {
+            Ok(mirror) => mirror,
             Err(fault) => return Err(SettleFault::Books(fault)),
         };
-        found_anew(alloc, &self.register, change, register)
+        found_anew(alloc, &self.mirror, change, mirror)
     }
 
     /// Takes what was found for the ledger.
@@ -181,35 +189,35 @@ impl<K: Keeper> Books<K> {
         ensures ledger { self.new.ledger ≡ found.ledger }
         ensures keeper { self.new.keeper ≡ self.old.keeper }
     {
-        self.register = found.register;
+        self.mirror = found.mirror;
     }
 
     /// The number of this start, or 0 where none was ever raised.
     pub fn start(&self) -> u32
         ensures { result ≡ self.now.ledger.start }
     {
-        self.register.start()
+        self.mirror.register().start()
     }
 
     /// How many marks there are.
     pub fn marks(&self) -> u32
         ensures { result ≡ length self.now.ledger.marks }
     {
-        self.register.marks()
+        self.mirror.register().marks()
     }
 
     /// What the last mark of a unit gives it.
     pub fn status(&self, unit: &UnitKey) -> Option<Status>
         ensures { result ≡ status_of self.now.ledger.units self.now.ledger.marks unit.now }
     {
-        self.register.status(unit)
+        self.mirror.register().status(unit)
     }
 
     /// Where the last mark of a unit tells of a refusal, the effect's number in its part from 1 on, and the reason.
     pub fn error(&self, unit: &UnitKey) -> Option<(u32, Reason)>
         ensures { result ≡ error_of self.now.ledger.marks unit.now }
     {
-        self.register.error(unit)
+        self.mirror.register().error(unit)
     }
 
     /// How many units wait for part 1, V1, or for part 2, V2.
@@ -217,7 +225,7 @@ impl<K: Keeper> Books<K> {
         requires { (part ≡ 1) ⊎ (part ≡ 2) }
         ensures { result ≡ length (waiting_for (part_at part) self.now.ledger) }
     {
-        self.register.waiting(Part::at(part))
+        self.mirror.register().waiting(Part::at(part))
     }
 
     /// The unit at a place, counted from 1, of those that wait for a part: the one whose last mark is oldest first, so
@@ -226,7 +234,7 @@ impl<K: Keeper> Books<K> {
         requires { (part ≡ 1) ⊎ (part ≡ 2) }
         ensures { result ≡ at_place place (waiting_for (part_at part) self.now.ledger) }
     {
-        self.register.waiting_at(Part::at(part), place)
+        self.mirror.register().waiting_at(Part::at(part), place)
     }
 
     /// The text of a business row. After `Failed` only `into_keeper` is allowed.
@@ -253,42 +261,42 @@ impl<K: Keeper> Books<K> {
     pub fn units(&self) -> &[Unit]
         ensures { result.now ≡ self.now.ledger.units }
     {
-        self.register.units()
+        self.mirror.register().units()
     }
 
     /// The locks that were handed to a unit. One that was never recorded has none.
     pub fn unit_locks(&self, alloc: Global, unit: &UnitKey) -> Result<Vec<Entry>, NoMemory>
         ensures { IfOk result (λ entries. entries.items ≡ entries_of self.now.ledger.units unit.now) }
     {
-        viewing::entries(alloc, &self.register, unit)
+        viewing::entries(alloc, self.mirror.register(), unit)
     }
 
     /// What is told of each recorded unit, in the order in which they were recorded.
     pub fn views(&self, alloc: Global) -> Result<Vec<UnitView>, NoMemory>
         ensures { IfOk result (λ views. views.items ≡ views_of self.now.ledger) }
     {
-        viewing::views(alloc, &self.register)
+        viewing::views(alloc, self.mirror.register())
     }
 
     /// The units that wait for their V1 part, the one whose last mark is oldest first, each with its locks.
     pub fn open_units(&self, alloc: Global) -> Result<Vec<UnitLocks>, NoMemory>
         ensures { IfOk result (λ locks. locks.items ≡ open_locks self.now.ledger) }
     {
-        viewing::open_units(alloc, &self.register)
+        viewing::open_units(alloc, self.mirror.register())
     }
 
     /// How many numbers were committed, by units and alone.
     pub fn numbers(&self) -> u64
         ensures { result ≡ length (numbers_of self.now.ledger.units self.now.ledger.marks) }
     {
-        self.register.numbers()
+        self.mirror.register().numbers()
     }
 
     /// The level of the stored interval of this name.
     pub fn level(&self, object: &Name, nr: [u8; 2]) -> Option<u64>
         ensures { result ≡ option_map (λ (l : StoredLevel). l.level) (get self.now.ledger.levels (object.now, nr)) }
     {
-        self.register.level(object, nr)
+        self.mirror.register().level(object, nr)
     }
 
     /// The stored interval at a place, counted from 1, in the order of the keys of their rows: the shorter object
@@ -296,14 +304,14 @@ impl<K: Keeper> Books<K> {
     pub fn stored(&self, row: u64) -> Option<StoredInterval>
         ensures { result ≡ at_place row (in_row_order self.now.ledger.levels) }
     {
-        self.register.stored(row)
+        self.mirror.register().stored(row)
     }
 
     /// The stored intervals in that order.
     pub fn intervals(&self) -> &[StoredInterval]
         ensures { result.now ≡ in_row_order self.now.ledger.levels }
     {
-        self.register.intervals()
+        self.mirror.register().intervals()
     }
 
     /// Makes ready to store an interval anew. Nothing changes in the store.
@@ -321,7 +329,7 @@ impl<K: Keeper> Books<K> {
         ensures unmoved { IsUnmoved K.held K.may_leave K.faults self.old self.new }
     {
         let batch = level_batch(alloc, &[*interval])?;
-        self.prepare(alloc, batch, Step::Level(*interval))
+        self.prepare(alloc, batch, Vec::new(alloc), Step::Level(*interval))
     }
 
     /// Makes ready to note numbers that a unit draws alone. Nothing changes in the store.
@@ -349,7 +357,7 @@ impl<K: Keeper> Books<K> {
             numbers: Items::from_vec(Vec::from_slice(alloc, numbers)?),
             levels: Items::from_vec(Vec::from_slice(alloc, levels)?),
         };
-        self.prepare(alloc, batch, step)
+        self.prepare(alloc, batch, Vec::new(alloc), step)
     }
 
     /// Makes ready to record a unit, which is dropped where memory runs out. Nothing changes in the store.
@@ -378,38 +386,41 @@ impl<K: Keeper> Books<K> {
             return Err(NoMemory);
         };
         let levels = Items::from_vec(levels);
-        self.prepare(alloc, batch, Step::Record { unit, levels })
+        self.prepare(alloc, batch, Vec::new(alloc), Step::Record { unit, levels })
     }
 
-    /// Makes ready to post the V1 part of a unit, or to record where it is refused. Nothing changes in the store. After
-    /// `Failed` only `into_keeper` is allowed.
+    /// What the V1 part of a unit that waits for it is worked from.
+    pub fn draft(&self, alloc: Global, unit: &UnitKey) -> Result<Draft, NoMemory>
+        requires { IsOpenUnit self.now.ledger unit.now }
+        ensures { IfOk result (IsDrafted self.now.ledger unit.now) }
+    {
+        draft_part(alloc, &self.mirror, unit)
+    }
+
+    /// Makes ready to post the V1 part of a unit, or to record where it is refused. What a draft of it came to is taken
+    /// where its effects and its rows are still the same, and else the part is worked anew. Nothing changes in the
+    /// store.
     pub fn prepare_post1(
         &mut self,
         alloc: Global,
         unit: &UnitKey,
-    ) -> Result<(Prepared, Outcome), KeepFault>
+        worked: Option<&Worked>,
+    ) -> Result<(Prepared, Outcome), NoMemory>
         requires usable { IsUsable K.held K.is_open self.old }
         requires marks { HasMarksLeft self.old.ledger }
         requires waits { IsOpenUnit self.old.ledger unit.now }
         ensures ready { IfOk result (λ r. IsReady K.held K.has_room self.new r.0) }
         ensures step { IfOk result (λ r. r.0.step ≡ Note unit.now (post_kind r.1)) }
-        ensures outcome { IfOk result
-            (λ r. IfSome (K.held self.old.keeper)
-            (λ _. IsOutcome (applied (v1_of self.old.ledger.units unit.now)
-            (tables_of self.old.ledger.units self.old.ledger.marks)) r.1)) }
         // Also where the keeper doesn't tell its rows.
-        ensures possible { IfOk result (λ r. MayCome (v1_of self.old.ledger.units unit.now) r.1) }
-        ensures usable { UnlessFailed result (IsUsable K.held K.is_open self.new) }
-        ensures unmoved { UnlessFailed result (IsUnmoved K.held K.may_leave K.faults self.old self.new) }
-        ensures ledger { self.new.ledger ≡ self.old.ledger }
-        ensures told { is_some (K.held self.new.keeper) ≡ is_some (K.held self.old.keeper) }
-        ensures crash { IsWithin (K.may_leave self.new.keeper) (K.may_leave self.old.keeper) }
-        ensures cause { HasFaultCause (K.faults self.old.keeper) (K.faults self.new.keeper) result }
+        ensures outcome { IfOk result (λ r. IsOutcome (applied (v1_of self.old.ledger.units unit.now)
+            (tables_of self.old.ledger.units self.old.ledger.marks)) r.1) }
+        ensures usable { IsUsable K.held K.is_open self.new }
+        ensures unmoved { IsUnmoved K.held K.may_leave K.faults self.old self.new }
     {
-        self.prepare_post(alloc, unit, Part::V1)
+        self.prepare_post(alloc, unit, Part::V1, worked)
     }
 
-    /// The same for the V2 part of a unit whose V1 part is posted.
+    /// The same for the V2 part of a unit whose V1 part is posted. It isn't drafted, and `Failed` never comes.
     pub fn prepare_post2(
         &mut self,
         alloc: Global,
@@ -420,20 +431,16 @@ impl<K: Keeper> Books<K> {
         requires waits { IsPostedUnit self.old.ledger unit.now }
         ensures ready { IfOk result (λ r. IsReady K.held K.has_room self.new r.0) }
         ensures step { IfOk result (λ r. r.0.step ≡ Note unit.now (post2_kind r.1)) }
-        ensures outcome { IfOk result
-            (λ r. IfSome (K.held self.old.keeper)
-            (λ _. IsOutcome (applied (v2_of self.old.ledger.units unit.now)
-            (tables_of self.old.ledger.units self.old.ledger.marks)) r.1)) }
-        // Also where the keeper doesn't tell its rows.
-        ensures possible { IfOk result (λ r. MayCome (v2_of self.old.ledger.units unit.now) r.1) }
-        ensures usable { UnlessFailed result (IsUsable K.held K.is_open self.new) }
-        ensures unmoved { UnlessFailed result (IsUnmoved K.held K.may_leave K.faults self.old self.new) }
-        ensures ledger { self.new.ledger ≡ self.old.ledger }
-        ensures told { is_some (K.held self.new.keeper) ≡ is_some (K.held self.old.keeper) }
-        ensures crash { IsWithin (K.may_leave self.new.keeper) (K.may_leave self.old.keeper) }
-        ensures cause { HasFaultCause (K.faults self.old.keeper) (K.faults self.new.keeper) result }
+        ensures outcome { IfOk result (λ r. IsOutcome (applied (v2_of self.old.ledger.units unit.now)
+            (tables_of self.old.ledger.units self.old.ledger.marks)) r.1) }
+        ensures fault { IfErr result (λ fault. fault ≡ KeepFault.NoMemory) }
+        ensures usable { IsUsable K.held K.is_open self.new }
+        ensures unmoved { IsUnmoved K.held K.may_leave K.faults self.old self.new }
     {
-        self.prepare_post(alloc, unit, Part::V2)
+        match self.prepare_post(alloc, unit, Part::V2, None) {
+            Ok(ready) => Ok(ready),
+            Err(_) => Err(KeepFault::NoMemory),
+        }
     }
 
     /// Makes ready to let a refused part of a unit be tried again, or to cancel a unit. Nothing changes in the store.
@@ -452,7 +459,7 @@ impl<K: Keeper> Books<K> {
         ensures usable { IsUsable K.held K.is_open self.new }
         ensures unmoved { IsUnmoved K.held K.may_leave K.faults self.old self.new }
     {
-        self.prepare_note(alloc, &[], unit, kind)
+        self.prepare_note(alloc, Vec::new(alloc), unit, kind)
     }
 
     /// Writes what was prepared last, in one commit. It takes no memory. After `Failed` only `into_keeper` is allowed.
@@ -470,9 +477,9 @@ impl<K: Keeper> Books<K> {
             → (left ≡ rows) ⊎ StandFor left (after_step self.old.ledger prepared.step)) }
         ensures cause { HasCause (K.faults self.old.keeper) (K.faults self.new.keeper) result }
     {
-        let Prepared { batch, step } = prepared;
+        let Prepared { batch, rows, step } = prepared;
         self.keeper.commit(batch.as_slice())?;
-        self.register.add(step);
+        self.mirror.add(step, rows.into_vec());
         Ok(())
     }
 
@@ -480,8 +487,8 @@ impl<K: Keeper> Books<K> {
     pub fn into_keeper(self) -> K
         ensures { result ≡ self.keeper }
     {
-        let Books { register, keeper } = self;
-        drop(register);
+        let Books { mirror, keeper } = self;
+        drop(mirror);
         keeper
     }
 
@@ -491,27 +498,21 @@ impl<K: Keeper> Books<K> {
         alloc: Global,
         unit: &UnitKey,
         part: Part,
-    ) -> Result<(Prepared, Outcome), KeepFault>
+        worked: Option<&Worked>,
+    ) -> Result<(Prepared, Outcome), NoMemory>
         requires usable { IsUsable K.held K.is_open self.old }
         requires marks { HasMarksLeft self.old.ledger }
         requires waits { WaitsFor part self.old.ledger unit.now }
         ensures ready { IfOk result (λ r. IsReady K.held K.has_room self.new r.0) }
         ensures step { IfOk result (λ r. r.0.step ≡ Note unit.now (kind_for part r.1)) }
-        ensures outcome { IfOk result
-            (λ r. IfSome (K.held self.old.keeper)
-            (λ _. IsOutcome (applied (effects_of part self.old.ledger.units unit.now)
-            (tables_of self.old.ledger.units self.old.ledger.marks)) r.1)) }
-        ensures possible { IfOk result (λ r. MayCome (effects_of part self.old.ledger.units unit.now) r.1) }
-        ensures usable { UnlessFailed result (IsUsable K.held K.is_open self.new) }
-        ensures unmoved { UnlessFailed result (IsUnmoved K.held K.may_leave K.faults self.old self.new) }
-        ensures ledger { self.new.ledger ≡ self.old.ledger }
-        ensures told { is_some (K.held self.new.keeper) ≡ is_some (K.held self.old.keeper) }
-        ensures crash { IsWithin (K.may_leave self.new.keeper) (K.may_leave self.old.keeper) }
-        ensures cause { HasFaultCause (K.faults self.old.keeper) (K.faults self.new.keeper) result }
+        ensures outcome { IfOk result (λ r. IsOutcome (applied (effects_of part self.old.ledger.units unit.now)
+            (tables_of self.old.ledger.units self.old.ledger.marks)) r.1) }
+        ensures usable { IsUsable K.held K.is_open self.new }
+        ensures unmoved { IsUnmoved K.held K.may_leave K.faults self.old self.new }
     {
-        let (spots, outcome) = post_part(alloc, &self.register, &mut self.keeper, unit, part)?;
+        let (spots, outcome) = post_part(alloc, &self.mirror, unit, part, worked)?;
         let kind = part.kind_for(outcome);
-        let prepared = self.prepare_note(alloc, spots.as_slice(), unit, kind)?;
+        let prepared = self.prepare_note(alloc, spots, unit, kind)?;
         Ok((prepared, outcome))
     }
 
@@ -519,31 +520,31 @@ impl<K: Keeper> Books<K> {
     fn prepare_note(
         &mut self,
         alloc: Global,
-        spots: &[Spot],
+        spots: Vec<Spot>,
         unit: &UnitKey,
         kind: MarkKind,
     ) -> Result<Prepared, NoMemory>
         requires usable { IsUsable K.held K.is_open self.old }
         requires marks { HasMarksLeft self.old.ledger }
         requires follows { MayGet self.old.ledger unit.now kind }
-        requires distinct { HasDistinctRows spots.now }
-        requires note { IfSome (K.held self.old.keeper)
-            (λ _. IsNote self.old.ledger (next_mark self.old.ledger unit.now kind) spots.now) }
+        requires distinct { HasDistinctRows spots.items }
+        requires note { IsNote self.old.ledger (next_mark self.old.ledger unit.now kind) spots.items }
         ensures ready { IfOk result (λ prepared. IsReady K.held K.has_room self.new prepared) }
         ensures step { IfOk result (λ prepared. prepared.step ≡ Note unit.now kind) }
         ensures usable { IsUsable K.held K.is_open self.new }
         ensures unmoved { IsUnmoved K.held K.may_leave K.faults self.old self.new }
     {
         let mark = mark_behind(self.marks(), unit, kind);
-        let batch = note_batch(alloc, self.start(), spots, &mark)?;
+        let batch = note_batch(alloc, self.start(), spots.as_slice(), &mark)?;
         let Mark { unit, kind, .. } = mark;
-        self.prepare(alloc, batch, Step::Note { unit, kind })
+        self.prepare(alloc, batch, spots, Step::Note { unit, kind })
     }
 
     fn prepare(
         &mut self,
         alloc: Global,
         batch: Vec<Change>,
+        rows: Vec<Spot>,
         step: Step,
     ) -> Result<Prepared, NoMemory>
         requires usable { IsUsable K.held K.is_open self.old }
@@ -551,40 +552,47 @@ impl<K: Keeper> Books<K> {
         requires step { MayTake self.old.ledger step }
         requires makes { IfSome (K.held self.old.keeper)
             (λ rows. StandFor (changed batch.items rows) (after_step self.old.ledger step)) }
+        requires leaves { business (after_step self.old.ledger step)
+            ≡ with_spots rows.items (business self.old.ledger) }
         ensures ready { IfOk result (λ prepared. IsReady K.held K.has_room self.new prepared) }
         ensures step { IfOk result (λ prepared. prepared.step ≡ step) }
         ensures usable { IsUsable K.held K.is_open self.new }
         ensures unmoved { IsUnmoved K.held K.may_leave K.faults self.old self.new }
     {
-        match self.make_room(alloc, batch.as_slice(), interval_count(&step)) {
+        match self.make_room(alloc, batch.as_slice(), interval_count(&step), rows.len()) {
             Ok(()) => Ok(Prepared {
                 batch: Items::from_vec(batch),
+                rows: Items::from_vec(rows),
                 step,
             }),
             Err(_) => {
                 drop(batch);
+                drop(rows);
                 drop(step);
                 Err(NoMemory)
             }
         }
     }
 
-    /// Takes the memory for a batch that puts so many intervals. Nothing changes in the store.
+    /// Takes the memory for a batch that puts so many intervals and leaves so many business rows. Nothing changes in
+    /// the store.
     fn make_room(
         &mut self,
         alloc: Global,
         batch: &[Change],
         intervals: usize,
+        rows: usize,
     ) -> Result<(), NoMemory>
         requires usable { IsUsable K.held K.is_open self.old }
         requires batch { IsBatch batch.now }
         ensures kept { OnOk result (K.has_room self.new.keeper batch.now) }
         ensures space { OnOk result (1 ≤ self.new.room) }
         ensures spare { OnOk result (intervals ≤ self.new.spare) }
+        ensures places { OnOk result (rows ≤ self.new.places) }
         ensures usable { IsUsable K.held K.is_open self.new }
         ensures unmoved { IsUnmoved K.held K.may_leave K.faults self.old self.new }
     {
-        self.register.make_room(intervals)?;
+        self.mirror.make_room(intervals, rows)?;
         self.keeper.room(alloc, batch)?;
         Ok(())
     }
@@ -612,7 +620,8 @@ impl<K: Keeper> Books<K> {
         let Ok(batch) = start_batch(alloc, start + 1, self.marks()) else {
             return Err(BooksFault::NoMemory);
         };
-        let Ok(prepared) = self.prepare(alloc, batch, Step::Start(start + 1)) else {
+        let step = Step::Start(start + 1);
+        let Ok(prepared) = self.prepare(alloc, batch, Vec::new(alloc), step) else {
             return Err(BooksFault::NoMemory);
         };
         match self.write(prepared) {
@@ -622,29 +631,35 @@ impl<K: Keeper> Books<K> {
     }
 }
 
-/// Applies a part of a unit to the rows of the store.
-fn post_part<K: Keeper>(
-    alloc: Global,
-    register: &Register,
-    keeper: &mut K,
-    unit: &UnitKey,
-    part: Part,
-) -> Result<(Vec<Spot>, Outcome), KeepFault>
-    requires opened { K.is_open keeper.old }
-    requires waits { WaitsFor part register.now.ledger unit.now }
-    ensures distinct { IfOk result (λ r. HasDistinctRows r.0.items) }
-    ensures post { IfOk result (λ r. IfSome (K.held keeper.old) (λ rows. (tables : Tables) → HoldsTables rows tables
-        → IsPost (effects_of part register.now.ledger.units unit.now) tables r.1 r.0.items)) }
-    ensures possible { IfOk result (λ r. MayCome (effects_of part register.now.ledger.units unit.now) r.1) }
-    ensures stays { UnlessFailed result (Stays K.held K.is_open K.has_room keeper.old keeper.new) }
-    ensures told { is_some (K.held keeper.new) ≡ is_some (K.held keeper.old) }
-    ensures crash { IsWithin (K.may_leave keeper.new) (K.may_leave keeper.old) }
-    ensures cause { HasFaultCause (K.faults keeper.old) (K.faults keeper.new) result }
+/// What the V1 part of a unit is worked from.
+fn draft_part(alloc: Global, mirror: &Mirror, unit: &UnitKey) -> Result<Draft, NoMemory>
+    requires { IsOpenUnit mirror.now.ledger unit.now }
+    ensures { IfOk result (IsDrafted mirror.now.ledger unit.now) }
 {
-    let Some(found) = register.unit(unit) else {
+    let Some(found) = mirror.register().unit(unit) else {
         unreachable!();
     };
-    apply_to_store(alloc, keeper, effects_in(&found.parts, part))
+    Draft::new(alloc, unit, found.parts.v1.as_slice(), mirror.rows())
+}
+
+/// Applies a part of a unit to the business rows, or takes what was worked before.
+fn post_part(
+    alloc: Global,
+    mirror: &Mirror,
+    unit: &UnitKey,
+    part: Part,
+    worked: Option<&Worked>,
+) -> Result<(Vec<Spot>, Outcome), NoMemory>
+    requires { WaitsFor part mirror.now.ledger unit.now }
+    ensures once { IfOk result (λ r. HasDistinctRows r.0.items) }
+    ensures post { IfOk result (λ r. IsPost (effects_of part mirror.now.ledger.units unit.now)
+        (business mirror.now.ledger) r.1 r.0.items) }
+{
+    let Some(found) = mirror.register().unit(unit) else {
+        unreachable!();
+    };
+    let effects = effects_in(&found.parts, part);
+    post(alloc, mirror.rows(), unit, effects, worked)
 }
 
 fn effects_in(parts: &Parts, part: Part) -> &[Effect]

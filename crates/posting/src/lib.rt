@@ -3,7 +3,9 @@
 
 mod batch;
 mod books;
+mod draft;
 mod interval_list;
+mod mirror;
 mod opening;
 mod prepared;
 mod register;
@@ -14,6 +16,7 @@ mod spots;
 mod viewing;
 
 pub use books::Books;
+pub use draft::{Draft, Worked};
 pub use opening::BooksFault;
 pub use prepared::Prepared;
 pub use settling::{Reread, SettleFault, Unlike};

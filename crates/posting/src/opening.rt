@@ -3,8 +3,10 @@ ghost use Rattle.keeper_api.specs.Keeping.{IsWithin};
 ghost use Rattle.posting.specs.Opening.{CountsFault, OnBad, books_fault};
 ghost use Rattle.posting.specs.Reopening.{IsOpeningFault, MayBeOpeningFault, opening_fault};
 ghost use Rattle.store_reading.specs.Good.{IsSound, ledger_of};
+ghost use Rattle.update_records.specs.Business.{tables_of};
 ghost use Rattle.update_records.specs.Ledger.{StandFor};
 
+use crate::mirror::Mirror;
 use crate::register::Register;
 use enq_base::NoMemory;
 use keeper_api::{KeepFault, Keeper};
@@ -49,6 +51,7 @@ fn open_ledger<K: Keeper>(alloc: Global, keeper: &mut K) -> Result<StoredLedger,
         (λ stored. IfSome (K.held keeper.new)
         (λ rows. K.may_leave keeper.old rows × StandFor rows (ledger_of stored))) }
     ensures sound { IfOk result (λ stored. IsSound (ledger_of stored)) }
+    ensures rows { IfOk result (λ stored. stored.rows.tables ≡ tables_of stored.units.items stored.marks.items) }
     ensures counts { OnOk result (K.faults keeper.new ≡ K.faults keeper.old) }
     ensures told { is_some (K.held keeper.new) ≡ is_some (K.held keeper.old) }
     ensures crash { IsWithin (K.may_leave keeper.new) (K.may_leave keeper.old) }
@@ -66,13 +69,13 @@ fn open_ledger<K: Keeper>(alloc: Global, keeper: &mut K) -> Result<StoredLedger,
     }
 }
 
-/// Opens a keeper, and makes the register of its rows.
-pub fn open_register<K: Keeper>(alloc: Global, keeper: &mut K) -> Result<Register, BooksFault>
+/// Opens a keeper, and makes the ledger in memory of its rows.
+pub fn open_mirror<K: Keeper>(alloc: Global, keeper: &mut K) -> Result<Mirror, BooksFault>
     ensures opened { OnOk result (K.is_open keeper.new) }
     ensures stands { IfOk result
-        (λ register. IfSome (K.held keeper.new)
-        (λ rows. K.may_leave keeper.old rows × StandFor rows register.ledger)) }
-    ensures sound { IfOk result (λ register. IsSound register.ledger) }
+        (λ mirror. IfSome (K.held keeper.new)
+        (λ rows. K.may_leave keeper.old rows × StandFor rows mirror.ledger)) }
+    ensures sound { IfOk result (λ mirror. IsSound mirror.ledger) }
     ensures counts { OnOk result (K.faults keeper.new ≡ K.faults keeper.old) }
     ensures told { is_some (K.held keeper.new) ≡ is_some (K.held keeper.old) }
     ensures crash { IsWithin (K.may_leave keeper.new) (K.may_leave keeper.old) }
@@ -86,21 +89,29 @@ pub fn open_register<K: Keeper>(alloc: Global, keeper: &mut K) -> Result<Registe
         Err(fault) => return Err(fault),
     };
     match restored(alloc, stored) {
-        Ok(register) => Ok(register),
+        Ok(mirror) => Ok(mirror),
         Err(_) => Err(BooksFault::NoMemory),
     }
 }
 
-/// The register of a ledger that a store may stand for.
-fn restored(alloc: Global, stored: StoredLedger) -> Result<Register, NoMemory>
-    requires { IsSound (ledger_of stored) }
-    ensures { IfOk result (λ register. register.ledger ≡ ledger_of stored) }
+/// The ledger in memory of a ledger that a store may stand for.
+fn restored(alloc: Global, stored: StoredLedger) -> Result<Mirror, NoMemory>
+    requires sound { IsSound (ledger_of stored) }
+    requires rows { stored.rows.tables ≡ tables_of stored.units.items stored.marks.items }
+    ensures { IfOk result (λ mirror. mirror.ledger ≡ ledger_of stored) }
 {
     let StoredLedger {
         start,
         units,
         marks,
         levels,
+        rows,
     } = stored;
-    Register::restore(alloc, start, units, marks, levels)
+    match Register::restore(alloc, start, units, marks, levels) {
+        Ok(register) => Ok(Mirror::new(register, rows)),
+        Err(_) => {
+            drop(rows);
+            Err(NoMemory)
+        }
+    }
 }

@@ -6,6 +6,7 @@ ghost use Rattle.ledger_steps.specs.Steps.{after_step, intervals_in};
 ghost use Rattle.ledger_steps.specs.Views.{open_locks};
 
 use crate::interval_list::IntervalList;
+use crate::mirror::Mirror;
 use crate::opening::BooksFault;
 use crate::register::Register;
 use crate::sameness::{Same, are_same, is_num};
@@ -29,7 +30,7 @@ pub enum SettleFault {
 /// A store that was read anew and has another ledger than was looked for.
 #[derive(Drop)]
 pub struct Unlike {
-    pub(crate) register: Register,
+    pub(crate) mirror: Mirror,
 }
 
 impl Model for Unlike {
@@ -42,7 +43,7 @@ impl Model for Unlike {
 
     ghost coded = { Prim.hlevel (codes, levels_code) };
 
-    ghost view = { λ u. u.register.ledger };
+    ghost view = { λ u. u.mirror.ledger };
 }
 
 impl Unlike {
@@ -50,14 +51,14 @@ impl Unlike {
     pub fn intervals(&self) -> &[StoredInterval]
         ensures { result.now ≡ in_row_order self.now.levels }
     {
-        self.register.intervals()
+        self.mirror.register().intervals()
     }
 }
 
 /// What a store that was read anew has.
 #[derive(Drop)]
 pub struct Reread {
-    pub(crate) register: Register,
+    pub(crate) mirror: Mirror,
     pub(crate) taken: bool,
 }
 
@@ -71,7 +72,7 @@ impl Model for Reread {
 
     ghost coded = { Prim.hlevel (codes, levels_code) };
 
-    ghost view = { λ r. record { ledger = r.register.ledger; taken = r.taken } };
+    ghost view = { λ r. record { ledger = r.mirror.ledger; taken = r.taken } };
 }
 
 impl Reread {
@@ -86,34 +87,34 @@ impl Reread {
     pub fn start(&self) -> u32
         ensures { result ≡ self.now.ledger.start }
     {
-        self.register.start()
+        self.mirror.register().start()
     }
 
     /// The units that wait for their V1 part, the one whose last mark is oldest first, each with its locks.
     pub fn open_units(&self, alloc: Global) -> Result<Vec<UnitLocks>, NoMemory>
         ensures { IfOk result (λ locks. locks.items ≡ open_locks self.now.ledger) }
     {
-        viewing::open_units(alloc, &self.register)
+        viewing::open_units(alloc, self.mirror.register())
     }
 }
 
-/// What a register that was read anew says of a change.
+/// What a ledger that was read anew says of a change.
 pub fn found_anew(
     alloc: Global,
-    old: &Register,
+    old: &Mirror,
     change: Option<&Step>,
-    register: Register,
+    mirror: Mirror,
 ) -> Result<Reread, SettleFault>
     ensures settled { IfOk result
         (λ found. IsSettled old.now.ledger (option_copied change.entry) found.taken found.ledger) }
-    ensures ledger { IfOk result (λ found. found.ledger ≡ register.ledger) }
-    ensures unlike { IfErr result (IsUnlike old.now.ledger (option_copied change.entry) register.ledger) }
+    ensures ledger { IfOk result (λ found. found.ledger ≡ mirror.ledger) }
+    ensures unlike { IfErr result (IsUnlike old.now.ledger (option_copied change.entry) mirror.ledger) }
 {
-    match settled(alloc, old, change, &register) {
-        Ok(Some(taken)) => Ok(Reread { register, taken }),
-        Ok(None) => Err(SettleFault::Other(Unlike { register })),
+    match settled(alloc, old.register(), change, mirror.register()) {
+        Ok(Some(taken)) => Ok(Reread { mirror, taken }),
+        Ok(None) => Err(SettleFault::Other(Unlike { mirror })),
         Err(_) => {
-            drop(register);
+            drop(mirror);
             Err(SettleFault::Books(BooksFault::NoMemory))
         }
     }

@@ -247,7 +247,7 @@ no_failure s t (inr (inr h)) = absurd (let wrong : false ≡ true = h.0 in cc)
 store_failed : (reading : Reading) (lost : Bool) (s : State) (n : ℕ) (c : Command)
     → IsFailed true false (length s.past) (step (record { event = StoreFails; reading = reading; lost = lost }) s n c).state
 store_failed reading lost s n c =
-    let in_flight = in_flight_after reading s (call_of c) (call_verdict (found_by reading s) s (call_of c)) in
+    let in_flight = in_flight_after s (call_of c) (call_verdict (found_by reading s) s (call_of c)) in
     by_stock (λ call t. IsFailed true false (length s.past) (noted n c false (losing lost (refused (doubted t call None in_flight) refusal.StoreFault))).state)
     s
     (λ name parts stock. record { place = length s.past; doubt = refl; later = omega arith; within = longer s.past _; answer = inl (refl, last_call s.past _) })

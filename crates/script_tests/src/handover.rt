@@ -74,27 +74,26 @@ const GRANTED: &[u8] = b"1 OK\n2 OK\n3 ";
 
 const BARRED: &[u8] = b"1 OK\n2 FOREIGN_LOCK MILLER ZORDER 1000000000001\n3 ";
 
-// Whether the unit waits for its V1 part behind what was answered. The store kept what it failed in, or not; where it
-// failed in the post nothing tells whether that was in a read.
-fn waits(replies: &[u8], kept: bool) -> Option<bool> {
+// Whether the unit waits for its V1 part behind what was answered. The store kept what it failed in, or not.
+fn waits(replies: &[u8], kept: bool) -> bool {
     if contains(replies, b"\n6 POSTED 1.1.1\n") || contains(replies, b"\n6 BACKUP_FAULT\n") {
-        return Some(false);
+        return false;
     }
     if contains(replies, b"\n6 STORE_FAULT\n") {
-        return if kept { None } else { Some(true) };
+        return !kept;
     }
     let failed = contains(replies, b"\n4 STORE_FAULT\n");
-    Some(contains(replies, b"\n4 OK 1.1.1\n") || failed && kept)
+    contains(replies, b"\n4 OK 1.1.1\n") || failed && kept
 }
 
 // Tests that the lock is barred just where its unit is open, which it is where it waits.
-fn check_next(rt: &impl Abort, next: &Left, waits: Option<bool>) {
+fn check_next(rt: &impl Abort, next: &Left, waits: bool) {
     let replies = next.replies.as_slice();
     let is_open = contains(replies, b"3 1.1.1 MILLER OPEN ");
     let wanted = if is_open { BARRED } else { GRANTED };
     assert_eq!(rt; next.why, Why::Done);
     assert!(rt; replies.starts_with(wanted));
-    assert_eq!(rt; is_open, waits.unwrap_or(is_open));
+    assert_eq!(rt; is_open, waits);
 }
 
 // The next start: no lock is lost, and none stands too many.
@@ -103,7 +102,7 @@ fn goes_on<R: Abort + Threads + Wait + Sync>(
     alloc: Global,
     keeper: MemKeeper,
     disk: MemDisk,
-    waits: Option<bool>,
+    waits: bool,
 ) -> Result<(), Fail> {
     let next = next_start(rt, alloc, ASKED, keeper, disk)?;
     check_next(rt, &next, waits);
@@ -239,7 +238,7 @@ fn posts<R: Abort + Threads + Wait + Sync>(
     let posted = next_start(rt, alloc, b"@1 TAKE1\n@1 DO1\n", next.keeper, next.disk)?;
     let wanted: &[u8] = b"1 OK 1.1.1\n2 POSTED 1.1.1\n";
     assert_eq!(rt; posted.replies.as_slice(), wanted);
-    goes_on(rt, alloc, posted.keeper, posted.disk, Some(false))
+    goes_on(rt, alloc, posted.keeper, posted.disk, false)
 }
 
 // A start that records a unit.

@@ -1,6 +1,6 @@
 -- What each step leaves of a lot, whatever the devices do.
 use Rattle.std.proofs.Common.{◌≡◌, ℕ, Bool, false, List, refl, sym, subst, arith}
-use Rattle.std.specs.Prelude.{Contains, Option, None, Some, if◌then◌else◌, ◌||◌, true}
+use Rattle.std.specs.Prelude.{Contains, Option, None, Some, if◌then◌else◌, true}
 use Rattle.std.specs.List.{AllByRecursion}
 use Rattle.enq_base.specs.declared.owner.UnitKey.{UnitKey}
 use Rattle.enq_base.specs.declared.unit.Num.{Num}
@@ -16,7 +16,7 @@ use Rattle.model_laws.proofs.EachLock.{every_map}
 use Rattle.model_laws.proofs.NotedCalls.{by_noting}
 use Rattle.hall_model.specs.Calls.{Call, OfSession, Commits, call_of, only_reads}
 use Rattle.hall_model.specs.Devices.{DeviceOutcome, Reading, found_by}
-use Rattle.hall_model.specs.History.{IsStep, Served, doubted, had_lock, in_flight_after, is_unread, judged, read_anew, served, step, stored_before_file, takes_flight, unfiled, without_stock}
+use Rattle.hall_model.specs.History.{IsStep, Served, doubted, had_lock, in_flight_after, judged, read_anew, served, step, stored_before_file, takes_flight, unfiled, without_stock}
 use Rattle.hall_model.specs.Kept.{IsKept, IsSteady}
 use Rattle.hall_model.specs.Numbers.{stocked}
 use Rattle.hall_model.specs.OpenUnits.{OfInFlight}
@@ -47,11 +47,11 @@ lot_behind b s ranges sessions ledger in_flight h led flying = record {
 }
 
 -- the change that is in flight where the store fails: that of the call, or the one before
-flying_after : (Q : Ledger → Type 0) (reading : Reading) (s : State) (call : Call) (v : Verdict) → OfInFlight s.in_flight Q → Q (judged s v).state.stored
-    → OfInFlight (in_flight_after reading s call v) Q
-flying_after Q reading s call (Refuses r) h new = h
-flying_after Q reading s call (Leaves after r) h new =
-    elim (only_reads call || is_unread reading call) as (λ c. OfInFlight (if c then s.in_flight else Some after.stored) Q) [ true ↦ h | false ↦ new ]
+flying_after : (Q : Ledger → Type 0) (s : State) (call : Call) (v : Verdict) → OfInFlight s.in_flight Q → Q (judged s v).state.stored
+    → OfInFlight (in_flight_after s call v) Q
+flying_after Q s call (Refuses r) h new = h
+flying_after Q s call (Leaves after r) h new =
+    elim (only_reads call) as (λ c. OfInFlight (if c then s.in_flight else Some after.stored) Q) [ true ↦ h | false ↦ new ]
 
 -- what is shown of a call that is served
 abbrev pub LeavesLot : Lot → Call → Served → Type 0
@@ -91,14 +91,14 @@ module _ (b : Lot) (s : State) (steady : IsSteady s) (h : IsStocked s b) where
   StaysInDoubt call t = (in_flight : Option Ledger) → OfInFlight in_flight (GoesOn b s.stored.levels) → IsStocked (doubted t call None in_flight) b
 
   fails : (reading : Reading) (call : Call) → Respects b call
-      → IsStocked (doubted (without_stock call s) call None (in_flight_after reading s call (call_verdict (found_by reading s) s call))) b
+      → IsStocked (doubted (without_stock call s) call None (in_flight_after s call (call_verdict (found_by reading s) s call))) b
   fails reading call respects =
       let found = found_by reading s in
       let v = call_verdict found s call in
       let led : Leads b s (judged s v).state = by_call (LeadsOn b s) found s (each b s steady h found) call (λ sure. respects) in
       by_stock StaysInDoubt s (λ name parts stock. doubts_stocked stock (OfSession name (Commits parts stock))) (λ other. doubts other None) call
-      (in_flight_after reading s call v)
-      (flying_after (GoesOn b s.stored.levels) reading s call v h.flight_goes led.goes)
+      (in_flight_after s call v)
+      (flying_after (GoesOn b s.stored.levels) s call v h.flight_goes led.goes)
 
   -- the disk of the backup file fails: a mark may stand already
   marked : (call : Call) (read : Option Bool) (key : UnitKey) (kind : MarkKind) → CommitsNone kind

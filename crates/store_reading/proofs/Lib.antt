@@ -10,6 +10,8 @@ pub mod Levels
 pub mod Laid
 pub mod Followed
 pub mod Sound
+pub mod KeptTables
+pub mod ReadLedger
 pub mod Bare
 pub mod LevelsStand
 pub mod TablesStand

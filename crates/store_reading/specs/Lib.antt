@@ -7,6 +7,7 @@ pub mod Rules
 pub mod Units
 pub mod Intervals
 pub mod Posts
+pub mod Business
 pub mod Lawful
 pub mod Stores
 pub mod Good

@@ -1,30 +1,35 @@
 ghost use Rattle.std.specs.Prelude.{◌≡◌, map, List, None, Some, IfSome, IfOk, IfErr, is_some};
 ghost use Rattle.std.specs.List.{flat_map};
 ghost use Rattle.keeper_api.specs.Keeping.{IsWithin, Stays};
+ghost use Rattle.update_records.specs.Business.{tables_of};
 ghost use Rattle.update_records.specs.Intervals.{entry_of};
 ghost use Rattle.update_records.specs.Ledger.{StandFor};
+ghost use Rattle.store_reading.specs.Business.{business_in};
 ghost use Rattle.store_reading.specs.Faults.{HasReadingCause, MayBeFault, OnBad, OnFailed, UnlessFailed};
 ghost use Rattle.store_reading.specs.Good.{IsBadPlace, IsSound, ledger_of};
 ghost use Rattle.store_reading.specs.Stores.{ledger_in, level_entry, store_fault};
 ghost use Rattle.store_reading.specs.Told.{AreRead, records_in};
 
+use crate::business::business_in;
 use crate::fault::ReadingFault;
 use crate::reading::{StoredRecords, read_records};
 use crate::store_rule::{start_in, store_fault};
 use crate::units::{marks_in, units_in};
+use business_rows::BusinessRows;
 use enq_base::NoMemory;
 use keeper_api::Keeper;
 use std::alloc::Global;
 use update_records::{Mark, Record, StoredInterval, Unit, tables};
 
 /// What a good store stands for: the number of its last start, or 0, its units in the order of recording, its marks in
-/// order, and its intervals in the order of their rows.
+/// order, its intervals in the order of their rows, and its business rows.
 #[derive(Drop)]
 pub struct StoredLedger {
     pub start: u32,
     pub units: Vec<Unit>,
     pub marks: Vec<Mark>,
     pub levels: Vec<StoredInterval>,
+    pub rows: BusinessRows,
 }
 
 fn intervals_in(alloc: Global, levels: &[Record]) -> Result<Vec<StoredInterval>, NoMemory>
@@ -58,13 +63,15 @@ fn intervals_in(alloc: Global, levels: &[Record]) -> Result<Vec<StoredInterval>,
 fn ledger_in(alloc: Global, records: &StoredRecords) -> Result<StoredLedger, NoMemory>
     requires read { AreRead records.now }
     requires right { store_fault records.now ≡ None }
-    ensures { IfOk result (λ stored. ledger_of stored ≡ ledger_in records.now) }
+    ensures ledger { IfOk result (λ stored. ledger_of stored ≡ ledger_in records.now) }
+    ensures rows { IfOk result (λ stored. stored.rows.tables ≡ business_in (records_in records.now 6)) }
 {
     Ok(StoredLedger {
         start: start_in(records.table(tables::META)),
         units: units_in(alloc, records)?,
         marks: marks_in(alloc, records)?,
         levels: intervals_in(alloc, records.table(tables::LEVELS))?,
+        rows: business_in(alloc, records.table(tables::BUSINESS))?,
     })
 }
 
@@ -77,6 +84,7 @@ pub fn read_ledger<K: Keeper>(alloc: Global, keeper: &mut K) -> Result<StoredLed
     ensures ledger { IfOk result (λ stored. IfSome (K.held keeper.old) (λ rows. StandFor rows (ledger_of stored))) }
     // Also where the keeper doesn't tell its rows.
     ensures sound { IfOk result (λ stored. IsSound (ledger_of stored)) }
+    ensures rows { IfOk result (λ stored. stored.rows.tables ≡ tables_of stored.units.items stored.marks.items) }
     ensures bad { IfErr result (λ fault. IfSome (K.held keeper.old) (λ rows. OnBad fault (IsBadPlace rows))) }
     ensures untold_bad { IfErr result MayBeFault }
     ensures stays { UnlessFailed result (Stays K.held K.is_open K.has_room keeper.old keeper.new) }
@@ -93,6 +101,7 @@ fn collect(alloc: Global, records: &StoredRecords) -> Result<StoredLedger, Readi
     requires read { AreRead records.now }
     ensures right { IfOk result
         (λ stored. (store_fault records.now ≡ None) × (ledger_of stored ≡ ledger_in records.now)) }
+    ensures rows { IfOk result (λ stored. stored.rows.tables ≡ business_in (records_in records.now 6)) }
     ensures bad { IfErr result
         (λ fault. OnBad fault (λ table row. store_fault records.now ≡ Some (record { table = table; row = row }))) }
     ensures low { IfErr result MayBeFault }

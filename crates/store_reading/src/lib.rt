@@ -1,6 +1,7 @@
 //! The rows of a whole store, read back into the records that they spell.
 #![tactic(auto)]
 
+mod business;
 mod counts;
 mod fault;
 mod interval_id;

@@ -11,7 +11,7 @@ use Rattle.actor_threads.specs.declared.actor.Actor.{Actor}
 use Rattle.caller_laws.specs.Callers.{actors_of, threads_of, workers_to}
 use Rattle.turn_desks.specs.declared.turn_desk.LockName.{Ghosts as Names}
 use Rattle.turn_lock.specs.declared.history.History.{Ghosts}
-use Rattle.thread_report.specs.Writing.{is_worker}
+use Rattle.thread_runner.specs.Writing.{is_worker}
 use Rattle.whole_script.specs.Lines.{names_in}
 use Rattle.thread_runner.specs.Acting.{AreSmall, HasWorker, IsSmall}
 use Rattle.thread_runner.specs.Hiring.{AreHired, IsHired}

@@ -11,3 +11,4 @@ pub mod Acted
 pub mod Refilled
 pub mod Stood
 pub mod Shown
+pub mod Popped

@@ -17,8 +17,8 @@ use Rattle.actor_threads.specs.Last.{LeadsServed, Stood, looked}
 use Rattle.actor_threads.specs.declared.actor.Deed.{Deed}
 use Rattle.caller_laws.specs.Callers.{AreDistinct, AreTheirs}
 use Rattle.caller_laws.specs.Doing.{Did, LeadsAlone, Left, Looked, WorkerDid}
-use Rattle.rest_laws.specs.Rest.{LeadsState}
-use Rattle.thread_report.specs.Writing.{is_worker}
+use Rattle.caller_laws.specs.Rest.{LeadsState}
+use Rattle.thread_runner.specs.Writing.{is_worker}
 use Rattle.thread_runner.specs.Hiring.{AreDone, DidDeed, left_of}
 use Rattle.thread_runner.specs.Looking.{LooksOnce, OneLooks, is_resting, stood}
 use Rattle.thread_runner.proofs.Done.{all_append, all_back, all_front}

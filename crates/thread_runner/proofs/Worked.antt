@@ -17,8 +17,8 @@ use Rattle.script_actors.specs.declared.line.NumberedLine.{NumberedLine}
 use Rattle.actor_threads.specs.declared.actor.Deed.{Deed}
 use Rattle.caller_laws.specs.Callers.{AreAmong, AreTheirs, entries_by, is_by}
 use Rattle.caller_laws.specs.Doing.{Did, WorkerDid}
-use Rattle.rest_laws.specs.Rest.{BeganAt, IsIdle, RestedAlone, WentWell}
-use Rattle.thread_report.specs.Writing.{found_full, is_worker}
+use Rattle.caller_laws.specs.Rest.{BeganAt, IsIdle, RestedAlone, WentWell}
+use Rattle.thread_runner.specs.Writing.{found_full, is_worker}
 use Rattle.turn_desks.specs.Led.{Counts, IsLed}
 use Rattle.thread_runner.specs.Acting.{AreSmall, HasWorker, IsSmall}
 use Rattle.thread_runner.specs.Hiring.{AreDone, DidDeed, left_of}

@@ -18,9 +18,9 @@ use Rattle.whole_script.specs.Lines.{names_in}
 use Rattle.actor_threads.specs.declared.actor.Deed.{Deed as DeedOf}
 use Rattle.caller_laws.specs.Callers.{threads_of, view_by, workers_to}
 use Rattle.caller_laws.specs.Doing.{Did, DidLines, nothing_asked}
-use Rattle.thread_report.specs.Answers.{answers_in, answers_of}
-use Rattle.thread_report.specs.Writing.{AllSaid, HadMemory, IsWritten, found_full, is_worker}
-use Rattle.thread_report.specs.Writing.{IsReported as WasReported}
+use Rattle.thread_runner.specs.Answers.{answers_in, answers_of}
+use Rattle.thread_runner.specs.Writing.{AllSaid, HadMemory, IsWritten, found_full, is_worker}
+use Rattle.thread_runner.specs.Writing.{IsReported as WasReported}
 use Rattle.thread_runner.specs.Acting.{HasActed, HaveSeen}
 use Rattle.thread_runner.specs.Hiring.{DidDeed, left_of}
 use Rattle.thread_runner.specs.Looking.{LeavesNone}

@@ -10,7 +10,7 @@ use Rattle.script_runner.specs.declared.runner.Why.{Why}
 use Rattle.script_runner.specs.declared.runner.Why.TheVariants.{NoMemory}
 use Rattle.actor_threads.specs.declared.actor.Deed.{Deed}
 use Rattle.caller_laws.specs.Callers.{AreAmong}
-use Rattle.thread_report.specs.Writing.{is_worker}
+use Rattle.thread_runner.specs.Writing.{is_worker}
 use Rattle.turn_desks.specs.Watching.{HasShown}
 use Rattle.thread_runner.specs.Hiring.{AreDone, looks_of}
 use Rattle.thread_runner.specs.Looking.{LeavesNone}

@@ -2,3 +2,5 @@ pub mod Threads
 pub mod Hiring
 pub mod Looking
 pub mod Acting
+pub mod Answers
+pub mod Writing

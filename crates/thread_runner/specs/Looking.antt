@@ -8,7 +8,7 @@ use Rattle.hall_model.specs.declared.command.Who.TheVariants as caller
 use Rattle.order_laws.specs.Behind.{HasNoTrouble, wants}
 use Rattle.order_laws.specs.Resting.{NoneWaits}
 use Rattle.order_workers.specs.Orders.{DidWork}
-use Rattle.thread_report.specs.Writing.{found_full, is_worker}
+use Rattle.thread_runner.specs.Writing.{found_full, is_worker}
 use Rattle.thread_runner.specs.Hiring.{IsLong}
 
 -- a worker that ended because nothing was left to do

@@ -23,7 +23,7 @@ use Rattle.script_runner.specs.Replay.{IsDoubted, IsDoubtedBy, Seen, doubt_of}
 use Rattle.script_runner.specs.declared.runner.Why.{Why}
 use Rattle.script_runner.specs.declared.runner.Why.TheVariants.{Done, SinkFault, StoreFault, BackupFault, BadStore}
 use Rattle.script_runner.specs.declared.runner.Why.TheVariants.{BadBackup, NoMemory, LogFull}
-use Rattle.thread_report.specs.Answers.{AreInOrder, answers_of}
+use Rattle.thread_runner.specs.Answers.{AreInOrder, answers_of}
 use Rattle.whole_script.specs.Reading.{IsRead, IsReadingEnd}
 use Rattle.caller_laws.specs.Callers.{AreAmong, actors_of, threads_of, view_by}
 use Rattle.caller_laws.specs.Doing.{Did, Left, nothing_asked}

@@ -21,7 +21,7 @@ A COMMIT
 fn orders(alloc: Global) -> Result<String, Fail> {
     let mut script = String::new(alloc);
     script.push_str("A LOGON MILLER\nB LOGON SMITH\n")?;
-    for _ in 0..8 {
+    for _ in 0..10 {
         script.push_str(UNITS)?;
     }
     Ok(script)

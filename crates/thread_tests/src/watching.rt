@@ -96,6 +96,8 @@ impl Gate for WatchGate {
         self.past.store(now.past, Ordering::SeqCst);
         self.looks.fetch_add(1, Ordering::SeqCst);
     }
+
+    fn work(&self, _who: &Who) {}
 }
 
 #[test]

@@ -20,6 +20,9 @@ pub trait Gate {
 
     /// After each look of a worker that rests, with what it gave.
     fn look(&self, who: &Who, now: &Readings);
+
+    /// Before a worker works a V1 part that it has an order for.
+    fn work(&self, who: &Who);
 }
 
 /// A gate that is open.
@@ -32,6 +35,8 @@ impl Gate for NoGate {
     fn after(&self, _who: &Who, _call: u64) {}
 
     fn look(&self, _who: &Who, _now: &Readings) {}
+
+    fn work(&self, _who: &Who) {}
 }
 
 /// A call that a gate holds.
@@ -105,4 +110,6 @@ impl Gate for HoldGate {
     fn after(&self, _who: &Who, _call: u64) {}
 
     fn look(&self, _who: &Who, _now: &Readings) {}
+
+    fn work(&self, _who: &Who) {}
 }

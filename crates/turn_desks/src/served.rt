@@ -19,6 +19,7 @@ use keeper_api::Keeper;
 use lock_entry::LockStore;
 use order_workers::Look;
 use past_laws::{histories_end, posts_are_not_idle};
+use posting::{Draft, Worked};
 use replica_link::Link;
 use std::alloc::Global;
 use std::marker::{Brand, PhantomData};
@@ -52,8 +53,9 @@ impl Origin for Brand {
 
 /// A state under a lock that serves calls, and keeps each in its history.
 pub trait Serving: History<Entry = PastEntry> {
-    /// Serves a call of this line of the script.
-    fn serve(&mut self, alloc: Global, line: u32, command: Command) -> Look
+    /// Serves a call of this line of the script. What a V1 part came to outside is taken by a post of it, where it
+    /// still holds.
+    fn serve(&mut self, alloc: Global, line: u32, command: Command, worked: Option<&Worked>) -> Look
         requires stock { HasNoStock (call_of command) }
         ensures told { map desk_call (Self.past self.new) ≡ with_call (map desk_call (Self.past self.old)) line command
             result.reply }
@@ -62,6 +64,9 @@ pub trait Serving: History<Entry = PastEntry> {
         ensures full { is_full result.reply ≡ true → 262144 ≤ length (Self.past self.new) }
         ensures posts { (is_post (call_of command) && is_idle result.reply) ≡ false }
         ensures length { result.past ≡ length (Self.past self.new) };
+
+    /// What the V1 part is worked from that a worker has an order for, where there is memory for it.
+    fn draft(&self, alloc: Global, worker: u8) -> Option<Draft>;
 }
 
 /// The hall, to which calls led from the state that it was opened with.
@@ -121,7 +126,7 @@ impl<J: Origin, T: LockStore, K: Keeper, D: Disk, L: Link> ServedHall<J, T, K, D
 }
 
 impl<J: Origin, T: LockStore, K: Keeper, D: Disk, L: Link> Serving for ServedHall<J, T, K, D, L> {
-    fn serve(&mut self, alloc: Global, line: u32, command: Command) -> Look
+    fn serve(&mut self, alloc: Global, line: u32, command: Command, worked: Option<&Worked>) -> Look
         requires stock { HasNoStock (call_of command) }
         ensures told { map desk_call self.new.hall.state.past ≡ with_call (map desk_call self.old.hall.state.past) line
             command result.reply }
@@ -134,10 +139,17 @@ impl<J: Origin, T: LockStore, K: Keeper, D: Disk, L: Link> Serving for ServedHal
     {
         histories_end();
         posts_are_not_idle();
-        let reply = self.hall.serve(alloc, line, command);
+        let reply = self.hall.serve_worked(alloc, line, command, worked);
         let is_up = is_up(self.hall.condition());
         let past = self.hall.past().len() as u64;
         Look { reply, is_up, past }
+    }
+
+    fn draft(&self, alloc: Global, worker: u8) -> Option<Draft> {
+        match self.hall.draft(alloc, worker) {
+            Ok(draft) => draft,
+            Err(_) => None,
+        }
     }
 }
 
@@ -147,26 +159,49 @@ fn is_up(condition: Condition) -> bool
     matches!(condition, Condition::Up)
 }
 
-/// One call of the state under the lock.
+/// One call of the state under the lock, with what a V1 part came to outside.
 #[derive(Drop)]
 pub(crate) struct OneCall {
     pub(crate) alloc: Global,
     pub(crate) line: u32,
     pub(crate) command: Option<Command>,
+    pub(crate) worked: Option<Worked>,
 }
 
-impl<S: Serving> Act<S, Look> for OneCall {
+/// What a turn gives: what is seen of the call, and behind a take of a V1 part what the part is worked from.
+#[derive(Drop)]
+pub(crate) struct Turned {
+    pub(crate) look: Look,
+    pub(crate) draft: Option<Draft>,
+}
+
+impl<S: Serving> Act<S, Turned> for OneCall {
     ghost use Rattle.std.specs.Prelude.{IfSome, Some};
     ghost use Rattle.hall_model.specs.declared.command.Command.{Command};
 
     ghost can = { λ a s. (c : Command) × ((a.command ≡ Some c) × HasNoStock (call_of c)) };
 
-    ghost does = { λ a s b t look. IfSome a.command (λ c. Asks S.past a.line c look.reply look.is_up s t) };
+    ghost does = { λ a s b t turned. IfSome a.command
+        (λ c. Asks S.past a.line c turned.look.reply turned.look.is_up s t) };
 
-    fn act(&mut self, state: &mut S) -> Look {
+    fn act(&mut self, state: &mut S) -> Turned {
         let Some(command) = self.command.take() else {
             unreachable!()
         };
-        state.serve(self.alloc, self.line, command)
+        let taker = taker_of(&command);
+        let look = state.serve(self.alloc, self.line, command, self.worked.as_ref());
+        let draft = match taker {
+            Some(worker) => state.draft(self.alloc, worker),
+            None => None,
+        };
+        Turned { look, draft }
+    }
+}
+
+/// The worker whose call takes an order for a V1 part.
+fn taker_of(command: &Command) -> Option<u8> {
+    match command {
+        Command::Take1 { worker } => Some(*worker),
+        _ => None,
     }
 }

@@ -12,6 +12,7 @@ use hall_model::{Command, PastEntry};
 use keeper_api::Keeper;
 use lock_entry::LockStore;
 use order_workers::Look;
+use posting::{Draft, Worked};
 use replica_link::Link;
 use std::alloc::Global;
 use std::marker::PhantomData;
@@ -96,11 +97,21 @@ impl<'g, N: LockName, J: Origin, T: LockStore, K: Keeper, D: Disk, L: Link> Hist
 
 impl<'g, N: LockName, J: Origin, T: LockStore, K: Keeper, D: Disk, L: Link> Serving
     for ShownHall<'g, N, J, T, K, D, L> {
-    fn serve(&mut self, alloc: Global, line: u32, command: Command) -> Look {
-        let look = self.served.serve(alloc, line, command);
+    fn serve(
+        &mut self,
+        alloc: Global,
+        line: u32,
+        command: Command,
+        worked: Option<&Worked>,
+    ) -> Look {
+        let look = self.served.serve(alloc, line, command, worked);
         let now = self.served.readings();
         self.gauges.publish(&mut self.writer, &now);
         look
+    }
+
+    fn draft(&self, alloc: Global, worker: u8) -> Option<Draft> {
+        self.served.draft(alloc, worker)
     }
 }
 

@@ -8,10 +8,11 @@ ghost use Rattle.turn_lock.specs.Passes.{known, IsPassOf};
 ghost use Rattle.turn_lock.specs.Rule.{own_entries};
 
 use crate::gate::Gate;
-use crate::served::{OneCall, Serving};
+use crate::served::{OneCall, Serving, Turned};
 use enq_base::Refusal;
 use hall_model::{Command, Reply, Who};
 use order_workers::{Look, OrderDesk};
+use posting::{Draft, Worked};
 use script_actors::Desk;
 use std::alloc::Global;
 use std::marker::{Brand, PhantomData};
@@ -51,7 +52,8 @@ impl Notes {
     }
 }
 
-/// The desk of an actor in a thread: each call is a turn.
+/// The desk of an actor in a thread: each call is a turn. What a V1 part is worked from is taken in the turn of its
+/// take, worked between the turns, and handed in with the next call.
 #[derive(Drop)]
 pub struct TurnDesk<'a, N: LockName, S: Serving, R: Wait, G: Gate> {
     rt: &'a R,
@@ -60,6 +62,7 @@ pub struct TurnDesk<'a, N: LockName, S: Serving, R: Wait, G: Gate> {
     lock: &'a TurnLock<S>,
     pub pass: Pass<S>,
     pub notes: Notes,
+    worked: Option<Worked>,
     of: PhantomData<N>,
     ghost of_lock: { table_of lock.now ≡ N.table },
     ghost own: { pass.seat.table_id ≡ N.table },
@@ -96,6 +99,7 @@ impl<'a, N: LockName, S: Serving, R: Wait, G: Gate> TurnDesk<'a, N, S, R, G> {
                 calls: 0,
                 full_at: None,
             },
+            worked: None,
             of: PhantomData,
         }
     }
@@ -113,10 +117,13 @@ impl<'a, N: LockName, S: Serving, R: Wait, G: Gate> TurnDesk<'a, N, S, R, G> {
             alloc: self.alloc,
             line: at,
             command: Some(command),
+            worked: self.worked.take(),
         };
-        let look = self.lock.with(self.rt, &mut self.pass, &mut act);
+        let turned = self.lock.with(self.rt, &mut self.pass, &mut act);
+        let Turned { look, draft } = turned;
         self.notes.note(at, &look.reply);
         self.gate.after(who, self.notes.calls);
+        self.worked = work(self.alloc, self.gate, who, draft);
         look
     }
 
@@ -153,5 +160,15 @@ impl<'a, N: LockName, S: Serving, R: Wait, G: Gate> OrderDesk for TurnDesk<'a, N
 
     fn order(&mut self, worker: u8, command: Command) -> Look {
         self.ask(0, &Who::Worker(worker), command)
+    }
+}
+
+/// Works what was drafted, outside the turn. Where memory is wanting nothing was worked, and the post works the part.
+fn work<G: Gate>(alloc: Global, gate: &G, who: &Who, draft: Option<Draft>) -> Option<Worked> {
+    let draft = draft?;
+    gate.work(who);
+    match draft.work(alloc) {
+        Ok(worked) => Some(worked),
+        Err(_) => None,
     }
 }

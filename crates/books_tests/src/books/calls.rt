@@ -78,7 +78,28 @@ pub fn post1(alloc: Global, books: &mut Books<MemKeeper>, unit: &UnitKey) -> Res
     if books.status(unit) != Some(Status::Open) || books.marks() >= MARKS {
         return Err(Fail::from("no open unit"));
     }
-    let Ok((prepared, outcome)) = books.prepare_post1(alloc, unit) else {
+    let Ok((prepared, outcome)) = books.prepare_post1(alloc, unit, None) else {
+        return Err(Fail::from("not ready"));
+    };
+    write(books, prepared)?;
+    Ok(outcome)
+}
+
+/// The same by what the part came to outside.
+pub fn post_drafted(
+    alloc: Global,
+    books: &mut Books<MemKeeper>,
+    unit: &UnitKey,
+) -> Result<Outcome, Fail>
+    requires usable { IsUsable held_rows IsSettled books.old }
+    ensures { OnOk result (IsUsable held_rows IsSettled books.new) }
+{
+    if books.status(unit) != Some(Status::Open) || books.marks() >= MARKS {
+        return Err(Fail::from("no open unit"));
+    }
+    let draft = books.draft(alloc, unit)?;
+    let worked = draft.work(alloc)?;
+    let Ok((prepared, outcome)) = books.prepare_post1(alloc, unit, Some(&worked)) else {
         return Err(Fail::from("not ready"));
     };
     write(books, prepared)?;

@@ -94,10 +94,15 @@ fn told_of(outcome: &Outcome, refused: Status) -> Told {
     }
 }
 
-/// What the V1 part of unit 2 comes to, which waits behind unit 1. It has no V2 part, so that it is closed where it is
-/// posted.
-fn first_part(alloc: Global, case: &Case) -> Result<(), Fail> {
+/// What the V1 part of unit 2 comes to, which waits behind unit 1, as it is posted or worked outside. It has no V2
+/// part, so that it is closed where it is posted.
+fn first_part(alloc: Global, case: &Case, is_drafted: bool) -> Result<(), Fail> {
     let (part, outcome, [first, second, third]) = *case;
+    let post = if is_drafted {
+        Step::PostDrafted(2, outcome)
+    } else {
+        Step::Post1(2, outcome)
+    };
     let recorded = [
         Step::Record(1, &ROWS, &[]),
         Step::Record(2, part, &[]),
@@ -106,7 +111,7 @@ fn first_part(alloc: Global, case: &Case) -> Result<(), Fail> {
         Step::Unit(2, (Some(Status::Open), None, &[2], &[])),
     ];
     let steps = [
-        Step::Post1(2, outcome),
+        post,
         Step::Unit(2, told_of(&outcome, Status::Bad)),
         Step::Row(b"1", first),
         Step::Row(b"2", second),
@@ -137,10 +142,11 @@ fn second_part(alloc: Global, case: &Case) -> Result<(), Fail> {
     do_steps(alloc, &recorded, &steps)
 }
 
-/// Each case, as a V1 part and as a V2 part.
+/// Each case, as a V1 part, posted or worked outside, and as a V2 part.
 fn are_posted(alloc: Global, cases: &[Case]) -> Result<(), Fail> {
     for case in cases {
-        first_part(alloc, case)?;
+        first_part(alloc, case, false)?;
+        first_part(alloc, case, true)?;
         second_part(alloc, case)?;
     }
     Ok(())

@@ -2,7 +2,9 @@ ghost use Rattle.std.specs.Prelude.{IfOk, OnOk};
 ghost use Rattle.keeper_mem.specs.Memory.{IsSettled, held_rows};
 ghost use Rattle.posting.specs.BooksView.{IsUsable};
 
-use super::calls::{cancel, commit, has_text, opened, post1, post2, reopen, try_again};
+use super::calls::{
+    cancel, commit, has_text, opened, post_drafted, post1, post2, reopen, try_again,
+};
 use super::drawing::{commit_locked, draw, store};
 use super::told::{Seen, Told, are_numbers, are_open, are_views, has_lock, is_told};
 use super::units::{Act, parts_of, unit_key};
@@ -29,6 +31,8 @@ pub enum Step {
     Store,
     /// A unit's V1 part comes to this.
     Post1(u32, Outcome),
+    /// The same, worked outside.
+    PostDrafted(u32, Outcome),
     /// A unit's V2 part comes to this.
     Post2(u32, Outcome),
     /// The refused part of a unit may be tried again.
@@ -65,6 +69,9 @@ fn act(alloc: Global, books: &mut Books<MemKeeper>, step: &Step) -> Result<(), F
 {
     match step {
         Step::Post1(luw, outcome) => wants(post1(alloc, books, &unit_key(*luw))? == *outcome),
+        Step::PostDrafted(luw, outcome) => {
+            wants(post_drafted(alloc, books, &unit_key(*luw))? == *outcome)
+        }
         Step::Post2(luw, outcome) => wants(post2(alloc, books, &unit_key(*luw))? == *outcome),
         Step::Again(luw) => try_again(alloc, books, &unit_key(*luw)),
         Step::Cancel(luw) => cancel(alloc, books, &unit_key(*luw)),

@@ -32,7 +32,7 @@ use Rattle.update_records.specs.declared.records.Unit.{Unit as UnitOfWork}
 use Rattle.hall_laws.proofs.keeping.UnitsToCome.{open_unheard}
 use Rattle.model_laws.proofs.OtherStatuses.{status_in}
 use Rattle.hall_model.specs.Calls.{OfSession, Reads, call_of}
-use Rattle.hall_model.specs.Devices.{MayRead, Reading, AsKnown, Comes, Shows, Reopens, Hands, IsTold, found_by}
+use Rattle.hall_model.specs.Devices.{MayRead, Reading, AsKnown, Shows, Reopens, Hands, IsTold, found_by}
 use Rattle.hall_model.specs.History.{judged}
 use Rattle.hall_model.specs.Kept.{IsSteady}
 use Rattle.hall_model.specs.Sessions.{session_at}
@@ -187,7 +187,6 @@ one_text a b e = cc
 found_tells : (reading : Reading) (s : State) (name table key : List ℕ) → s.told ≡ true → MayRead reading s (OfSession name (Reads table key))
     → row_in s.stored table key ≡ (found_by reading s).row table key
 found_tells AsKnown s name table key told may = refl
-found_tells (Comes outcome) s name table key told may = absurd may
 found_tells (Shows text) s name table key told may = sym (subst (λ b. IsTold b (text ≡ row_in s.stored table key)) told may)
 found_tells (Reopens taken) s name table key told may = absurd may
 found_tells (Hands list) s name table key told may = absurd may

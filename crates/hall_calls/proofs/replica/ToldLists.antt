@@ -8,7 +8,7 @@ use Rattle.lock_entry.specs.Table.{IsTable}
 use Rattle.lock_entry.specs.declared.entry.Entry.{Entry}
 use Rattle.hall_model.specs.Acts.{IsAct}
 use Rattle.hall_model.specs.Calls.{Call, LogsOn, OfSession, OfWorker, OfAdmin, Kills, FailsOver, Restarts, Attaches, Cancels, Resubmits, call_of}
-use Rattle.hall_model.specs.Devices.{AllWell, Wanting, StoreFails, BackupFails, LinkFails, NotRemade, IsTold, MayRead, RemakeFault, MeetsWant, FindsBad, FindsBadStore, Reading, AsKnown, Comes, Shows, Reopens, Hands, fault_told, found_by}
+use Rattle.hall_model.specs.Devices.{AllWell, Wanting, StoreFails, BackupFails, LinkFails, NotRemade, IsTold, MayRead, RemakeFault, MeetsWant, FindsBad, FindsBadStore, Reading, AsKnown, Shows, Reopens, Hands, fault_told, found_by}
 use Rattle.hall_model.specs.History.{Served, judged, served}
 use Rattle.hall_model.specs.State.{State}
 use Rattle.hall_model.specs.Step.{Found, is_sound, posted_reply}
@@ -42,7 +42,6 @@ handed list s (OfAdmin (Resubmits unit)) told may = absurd may
 
 found_told : (reading : Reading) (s : State) (call : Call) → s.link_told ≡ true → MayRead reading s call → (found_by reading s).list ≡ s.locks
 found_told AsKnown s call told may = refl
-found_told (Comes outcome) s call told may = refl
 found_told (Shows text) s call told may = refl
 found_told (Reopens taken) s call told may = refl
 found_told (Hands list) s call told may = handed list s call told may

@@ -166,7 +166,7 @@ module _ (s : State) (k : Condition) (is : s.condition ≡ k) (down : k ≡ cond
     act = record {
       outcome = only StoreFails;
       possible = record { reading = tt; event = (leaves_so AsKnown, ap is_doubt is ∙ doubt); lost = tt };
-      same = ap (λ v. refused (doubted s (OfAdmin Restarts) None (in_flight_after AsKnown s (OfAdmin Restarts) v)) refusal.StoreFault) (given (found_in s));
+      same = ap (λ v. refused (doubted s (OfAdmin Restarts) None (in_flight_after s (OfAdmin Restarts) v)) refusal.StoreFault) (given (found_in s));
     };
     taken = refl;
   }

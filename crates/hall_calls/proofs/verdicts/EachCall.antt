@@ -1,6 +1,6 @@
 -- A call comes to what its command's verdict says.
 use Rattle.std.proofs.Common.{◌≡◌, ℕ, ◌+◌, Bool, true, false, List, [], ◌∷◌, ◌++◌, length, fold, refl, sym, ap, ◌∙◌, subst}
-use Rattle.std.specs.Prelude.{◌||◌, nat_le, if◌then◌else◌, Option, Some, None, is_some, Result, Ok, Err, IsTrue}
+use Rattle.std.specs.Prelude.{nat_le, if◌then◌else◌, Option, Some, None, is_some, Result, Ok, Err, IsTrue}
 use Rattle.enq_base.specs.declared.refusal.Refusal.{Refusal}
 use Rattle.enq_base.specs.declared.refusal.Refusal.TheVariants as refusal
 use Rattle.enq_server.specs.Faults.{IsRefusal}
@@ -24,8 +24,8 @@ use Rattle.hall_model.specs.declared.command.Reply.TheVariants as reply
 use Rattle.hall_model.specs.declared.command.Session.{Session}
 use Rattle.hall_model.specs.Acts.{Admits, IsAct}
 use Rattle.hall_model.specs.Calls.{Call, LogsOn, OfSession, OfWorker, OfAdmin, Kills, FailsOver, Restarts, Attaches, Cancels, Resubmits, SessionCall, LogsOff, Asks, Frees, FreesAll, Converts, RollsBack, call_of, only_reads, writes_store_first}
-use Rattle.hall_model.specs.Devices.{AsKnown, BackupFails, MayBeDone, StoreFails, Wanting, all_well, may_want, only, uses_file, uses_store}
-use Rattle.hall_model.specs.History.{doubted, in_flight_after, is_unread, judged, refused, stored_before_file, unfiled, without_stock}
+use Rattle.hall_model.specs.Devices.{BackupFails, MayBeDone, StoreFails, Wanting, all_well, may_want, only, uses_file, uses_store}
+use Rattle.hall_model.specs.History.{doubted, in_flight_after, judged, refused, stored_before_file, unfiled, without_stock}
 use Rattle.hall_model.specs.Sessions.{begun, session_at, without_session, with_session, with_fresh_unit, pair_of}
 use Rattle.hall_model.specs.State.{State}
 use Rattle.hall_model.specs.Step.{Found, Verdict, Refuses, Leaves, answer_of, ask_refusal, call_verdict, called, converting, entered, fault_refusal, found_in, granting, leaves, logon, own_verdict, session_call, unavailable, unless_refused, verdict}
@@ -78,14 +78,14 @@ is_wanting s c free may = record { outcome = only Wanting; possible = record { r
 
 -- the store failed
 pub fails : (s : State) (c : Command) (after : State) (r : Reply) → Admits s c → own_verdict (found_in s) s (call_of c) ≡ Leaves after r
-    → IsTrue (uses_store s (call_of c)) → (only_reads (call_of c) || is_unread AsKnown (call_of c)) ≡ false
+    → IsTrue (uses_store s (call_of c)) → only_reads (call_of c) ≡ false
     → IsAct s c (doubted (without_stock (call_of c) s) (call_of c) None (Some after.stored)) (reply.Refused refusal.StoreFault)
 fails s c after r h e uses writes =
     let v = admitted (found_in s) s c h ∙ e in
     record {
       outcome = only StoreFails;
       possible = record { reading = tt; event = (ap leaves v, uses); lost = tt };
-      same = ap (λ x. refused (doubted (without_stock (call_of c) s) (call_of c) None (in_flight_after AsKnown s (call_of c) x)) refusal.StoreFault) v
+      same = ap (λ x. refused (doubted (without_stock (call_of c) s) (call_of c) None (in_flight_after s (call_of c) x)) refusal.StoreFault) v
           ∙ ap (λ b. refused (doubted (without_stock (call_of c) s) (call_of c) None (if b then s.in_flight else Some after.stored)) refusal.StoreFault) writes;
     }
 

@@ -21,18 +21,16 @@ use Rattle.lock_entry.specs.Names.{is_of}
 use Rattle.lock_entry.specs.Table.{IsFaultOf, IsTable, Table, with_entries}
 use Rattle.lock_entry.specs.declared.fault.AskFault.{AskFault}
 use Rattle.lock_entry.specs.declared.fault.AskFault.TheVariants as fault
-use Rattle.module_effects.specs.Effects.{applied}
 use Rattle.module_effects.specs.Rows.{Tables}
 use Rattle.module_effects.specs.declared.fault.EffectFault.{EffectFault}
 use Rattle.module_effects.specs.declared.fault.EffectFault.TheVariants as effect
 use Rattle.keeper_api.specs.Rows.{Rows}
 use Rattle.ledger_steps.specs.Intervals.{with_intervals}
-use Rattle.ledger_steps.specs.Posts.{MayCome, effects_of, entries_of, kind_for}
+use Rattle.ledger_steps.specs.Posts.{entries_of, kind_for}
 use Rattle.ledger_steps.specs.Steps.{IsNewUnit, IsOutcome, at_place}
 use Rattle.ledger_steps.specs.declared.step.Outcome.{Outcome}
 use Rattle.ledger_steps.specs.Drawn.{passed, settled_rows}
 use Rattle.ledger_steps.specs.declared.range.NumberRange.{NumberRange}
-use Rattle.update_records.specs.Business.{tables_of}
 use Rattle.update_records.specs.Grammar.{HasDigits}
 use Rattle.update_records.specs.Growing.{with_mark, with_unit}
 use Rattle.update_records.specs.Ledger.{Ledger}
@@ -47,15 +45,15 @@ use Rattle.hall_model.specs.declared.command.Session.{Session}
 use Rattle.hall_model.specs.Acts.{Admits, IsAct}
 use Rattle.hall_calls.specs.Written.{locks_posted}
 use Rattle.hall_model.specs.Calls.{OfAdmin, OfSession, OfWorker, Cancels, Commits, Posts, Reads, Resubmits, call_of, only_reads, post_of, writes_store_first}
-use Rattle.hall_model.specs.Devices.{AllWell, AsKnown, BackupFails, Comes, IsTold, MayBeDone, MayRead, Shows, StoreFails, found_by, may_want, only, uses_file, uses_store}
+use Rattle.hall_model.specs.Devices.{AllWell, BackupFails, IsTold, MayBeDone, Shows, StoreFails, all_well, found_by, may_want, only, uses_file, uses_store}
 use Rattle.hall_model.specs.OpenUnits.{waits_with_locks}
 use Rattle.enq_server.specs.Server.{lasting, with_user}
 use Rattle.enq_base.specs.declared.unit.Status.TheVariants as status
 use Rattle.update_records.specs.Marks.{has_status, status_of}
 use Rattle.model_laws.proofs.Resubmissions.{can_be_tried}
 use Rattle.std.proofs.lemmas.Bool.{and_from}
-use Rattle.hall_model.specs.Coming.{MayComeTo, outcome_in, outcome_of}
-use Rattle.hall_model.specs.History.{doubted, in_flight_after, is_unread, judged, refused, stored_before_file, unfiled, without_stock}
+use Rattle.hall_model.specs.Coming.{outcome_in, outcome_of}
+use Rattle.hall_model.specs.History.{doubted, in_flight_after, judged, refused, stored_before_file, unfiled, without_stock}
 use Rattle.hall_model.specs.Kept.{IsAhead}
 use Rattle.hall_model.specs.Orders.{first_unclaimed, is_claimed, order_for, order_of}
 use Rattle.hall_model.specs.Sessions.{is_called, owners_of, session_at, unit_key, with_next_unit, with_session, without_draws}
@@ -211,136 +209,101 @@ posts_full part s orders entries ledger limit worker unit e f g m room found ful
 
 -- a part that comes to this
 pub comes : (part : Part) (c : Command) (s : State) (worker : ℕ) (unit : UnitKey) (o : Outcome) → call_of c ≡ OfWorker worker (Posts part) → Admits s c
-    → order_for part s.stored s.orders worker ≡ Some unit → is_store_full s ≡ false → MayComeTo s.told s.stored part unit o
+    → order_for part s.stored s.orders worker ≡ Some unit → is_store_full s ≡ false → o ≡ outcome_in s.stored part unit
     → IsAct s c (marked part s worker unit (kind_for part o)) (posted_reply part unit o)
-comes part c s worker unit o posts room at space may =
-    let found = found_by (Comes o) s in
-    record {
-      outcome = record { event = AllWell; reading = Comes o; lost = false };
+comes part c s worker unit o posts room at space out =
+    subst (λ x. IsAct s c (marked part s worker unit (kind_for part x)) (posted_reply part unit x)) (sym out)
+    (record {
+      outcome = all_well;
       possible = record {
-        reading = subst (MayRead (Comes o) s) (sym posts) (subst (λ x. IfSome x (λ u. MayComeTo s.told s.stored part u o)) (sym at) may);
-        event = subst (λ call. MayBeDone call (call_verdict found s (call_of c))) (sym posts) tt;
+        reading = tt;
+        event = subst (λ call. MayBeDone call (call_verdict (found_in s) s (call_of c))) (sym posts) tt;
         lost = tt;
       };
-      same = ap (judged s) (admitted found s c room ∙ own_post part c found s worker (Some unit) posts at ∙ fits s _ space);
-    }
+      same = ap (judged s) (admitted (found_in s) s c room ∙ own_post part c (found_in s) s worker (Some unit) posts at ∙ fits s _ space);
+    })
 
-pub posts : (part : Part) (s : State) (told : Bool) (orders after : List (Option UnitKey)) (entries left : List Entry) (ledger new : Ledger) (limit worker : ℕ)
-    (unit : UnitKey) (o : Outcome) → s.told ≡ told → s.orders ≡ orders → (is_first part ≡ true → s.locks ≡ entries) → s.stored ≡ ledger
+pub posts : (part : Part) (s : State) (orders after : List (Option UnitKey)) (entries left : List Entry) (ledger new : Ledger) (limit worker : ℕ)
+    (unit : UnitKey) (o : Outcome) → s.orders ≡ orders → (is_first part ≡ true → s.locks ≡ entries) → s.stored ≡ ledger
     → s.mark_limit ≡ limit → Admits s (post_of part worker) → order_for part ledger orders worker ≡ Some unit → nat_le limit (length ledger.marks) ≡ false
-    → MayComeTo told ledger part unit o → after ≡ set orders worker None → left ≡ locks_behind part entries unit → new ≡ with_mark ledger unit (kind_for part o)
+    → o ≡ outcome_in ledger part unit → after ≡ set orders worker None → left ≡ locks_behind part entries unit
+    → new ≡ with_mark ledger unit (kind_for part o)
     → IsAct s (post_of part worker) (record s { orders = after; locks = locks_posted part s.locks left; stored = new }) (posted_reply part unit o)
-posts part s told orders after entries left ledger new limit worker unit o t e f g m room found space may a b c =
+posts part s orders after entries left ledger new limit worker unit o e f g m room found space may a b c =
     let e' : set s.orders worker None ≡ after = ap (λ xs. set xs worker None) e ∙ sym a in
     let f' : locks_behind part s.locks unit ≡ locks_posted part s.locks left = locks_go (is_first part) s.locks entries left unit f b in
     let g' : with_mark s.stored unit (kind_for part o) ≡ new = ap (λ l. with_mark l unit (kind_for part o)) g ∙ sym c in
-    let may' : MayComeTo s.told s.stored part unit o = subst (λ x. MayComeTo x s.stored part unit o) (sym t)
-    (subst (λ l. MayComeTo told l part unit o) (sym g) may) in
     at_state _ _ (marked part s worker unit (kind_for part o)) _ _ (λ i. record s { orders = e' i; locks = f' i; stored = g' i })
     (comes part (post_of part worker) s worker unit o (post_is part worker) room (held part s ledger orders worker (Some unit) g e found)
-    (full_as s limit ledger false m g space) may')
+    (full_as s limit ledger false m g space) (may ∙ ap (λ (l : Ledger). outcome_in l part unit) (sym g)))
 
-outcome_is : (r : Result Tables EffectFault) (o : Outcome) → IsOutcome r o → o ≡ outcome_of r
+-- what the books make ready is what the part comes to
+pub outcome_is : (r : Result Tables EffectFault) (o : Outcome) → IsOutcome r o → o ≡ outcome_of r
 outcome_is (Ok tables) o h = h
 outcome_is (Err (effect.Refused index reason)) o h = h
 outcome_is (Err effect.NoMemory) o h = absurd h
 
--- what the books make ready may come
-pub may_come : (part : Part) (told : Bool) (rows : Option Rows) (ledger : Ledger) (unit : UnitKey) (o : Outcome) → told ≡ is_some rows
-    → IfSome rows (λ _. IsOutcome (applied (effects_of part ledger.units unit) (tables_of ledger.units ledger.marks)) o)
-    → MayCome (effects_of part ledger.units unit) o → MayComeTo told ledger part unit o
-may_come part told None ledger unit o t known possible = subst (λ b. MayComeTo b ledger part unit o) (sym t) possible
-may_come part told (Some rows) ledger unit o t known possible = subst (λ b. MayComeTo b ledger part unit o) (sym t) (outcome_is _ o known)
-
 -- the store fails behind what a part came to
 failed_post : (part : Part) (c : Command) (s : State) (worker : ℕ) (unit : UnitKey) (o : Outcome) → call_of c ≡ OfWorker worker (Posts part) → Admits s c
-    → order_for part s.stored s.orders worker ≡ Some unit → is_store_full s ≡ false → MayComeTo s.told s.stored part unit o
+    → order_for part s.stored s.orders worker ≡ Some unit → is_store_full s ≡ false → o ≡ outcome_in s.stored part unit
     → IsAct s c (doubted (without_stock (call_of c) s) (call_of c) None (Some (with_mark s.stored unit (kind_for part o)))) (reply.Refused refusal.StoreFault)
-failed_post part c s worker unit o posts room at space may =
-    let found = found_by (Comes o) s in
-    let v = admitted found s c room ∙ own_post part c found s worker (Some unit) posts at ∙ fits s _ space in
+failed_post part c s worker unit o posts room at space out =
+    let v = admitted (found_in s) s c room ∙ own_post part c (found_in s) s worker (Some unit) posts at ∙ fits s _ space in
     let call = call_of c in
-    record {
-      outcome = record { event = StoreFails; reading = Comes o; lost = false };
-      possible = record {
-        reading = subst (MayRead (Comes o) s) (sym posts) (subst (λ x. IfSome x (λ u. MayComeTo s.told s.stored part u o)) (sym at) may);
-        event = (ap leaves v, ap (uses_store s) posts);
-        lost = tt;
-      };
-      same = ap (λ w. refused (doubted (without_stock call s) call None (in_flight_after (Comes o) s call w)) refusal.StoreFault) v
-          ∙ ap (λ b. refused (doubted (without_stock call s) call None (if b then s.in_flight else Some (with_mark s.stored unit (kind_for part o))))
+    let given : Outcome = outcome_in s.stored part unit in
+    subst (λ x. IsAct s c (doubted (without_stock call s) call None (Some (with_mark s.stored unit (kind_for part x)))) (reply.Refused refusal.StoreFault))
+    (sym out)
+    (record {
+      outcome = only StoreFails;
+      possible = record { reading = tt; event = (ap leaves v, ap (uses_store s) posts); lost = tt };
+      same = ap (λ w. refused (doubted (without_stock call s) call None (in_flight_after s call w)) refusal.StoreFault) v
+          ∙ ap (λ b. refused (doubted (without_stock call s) call None (if b then s.in_flight else Some (with_mark s.stored unit (kind_for part given))))
           refusal.StoreFault)
-          (λ i. only_reads (posts i) || is_unread (Comes o) (posts i));
-    }
+          (λ i. only_reads (posts i));
+    })
 
-pub posts_in_doubt : (part : Part) (s : State) (told : Bool) (orders : List (Option UnitKey)) (ledger : Ledger) (limit worker : ℕ) (unit : UnitKey)
-    (o : Outcome)
-    → s.told ≡ told → s.orders ≡ orders → s.stored ≡ ledger → s.mark_limit ≡ limit → Admits s (post_of part worker)
-    → order_for part ledger orders worker ≡ Some unit → nat_le limit (length ledger.marks) ≡ false → MayComeTo told ledger part unit o
+pub posts_in_doubt : (part : Part) (s : State) (orders : List (Option UnitKey)) (ledger : Ledger) (limit worker : ℕ) (unit : UnitKey) (o : Outcome)
+    → s.orders ≡ orders → s.stored ≡ ledger → s.mark_limit ≡ limit → Admits s (post_of part worker)
+    → order_for part ledger orders worker ≡ Some unit → nat_le limit (length ledger.marks) ≡ false → o ≡ outcome_in ledger part unit
     → IsAct s (post_of part worker)
     (doubted (without_stock (call_of (post_of part worker)) s) (call_of (post_of part worker)) None (Some (with_mark s.stored unit (kind_for part o))))
     (reply.Refused refusal.StoreFault)
-posts_in_doubt part s told orders ledger limit worker unit o t e g m room found space may =
-    let may' : MayComeTo s.told s.stored part unit o = subst (λ x. MayComeTo x s.stored part unit o) (sym t)
-    (subst (λ l. MayComeTo told l part unit o) (sym g) may) in
+posts_in_doubt part s orders ledger limit worker unit o e g m room found space may =
     failed_post part (post_of part worker) s worker unit o (post_is part worker) room (held part s ledger orders worker (Some unit) g e found)
-    (full_as s limit ledger false m g space) may'
-
--- the rows weren't read by which it is posted: nothing is in flight then
-pub posts_unread : (part : Part) (s : State) (orders : List (Option UnitKey)) (ledger : Ledger) (limit worker : ℕ) (unit : UnitKey)
-    → s.orders ≡ orders → s.stored ≡ ledger → s.mark_limit ≡ limit → s.in_flight ≡ None → Admits s (post_of part worker)
-    → order_for part ledger orders worker ≡ Some unit → nat_le limit (length ledger.marks) ≡ false
-    → IsAct s (post_of part worker) (doubted (without_stock (call_of (post_of part worker)) s) (call_of (post_of part worker)) None None)
-    (reply.Refused refusal.StoreFault)
-posts_unread part s orders ledger limit worker unit e g m none room found space =
-    let c = post_of part worker in
-    let call = call_of c in
-    let o = outcome_in s.stored part unit in
-    let by = post_is part worker in
-    let v = admitted (found_in s) s c room ∙ own_post part c (found_in s) s worker (Some unit) by (held part s ledger orders worker (Some unit) g e found)
-    ∙ fits s _ (full_as s limit ledger false m g space) in
-    record {
-      outcome = only StoreFails;
-      possible = record { reading = tt; event = (ap leaves v, ap (uses_store s) by); lost = tt };
-      same = ap (λ w. refused (doubted (without_stock call s) call None (in_flight_after AsKnown s call w)) refusal.StoreFault) v
-          ∙ ap (λ b. refused (doubted (without_stock call s) call None (if b then s.in_flight else Some (with_mark s.stored unit (kind_for part o))))
-          refusal.StoreFault)
-          (λ i. only_reads (by i) || is_unread AsKnown (by i))
-          ∙ ap (λ q. refused (doubted (without_stock call s) call None q) refusal.StoreFault) none;
-    }
+    (full_as s limit ledger false m g space) (may ∙ ap (λ (l : Ledger). outcome_in l part unit) (sym g))
 
 -- the disk fails behind the mark of a V1 part that comes to this, of a unit whose list stood in the file
 unfiled_post : (part : Part) (c : Command) (s : State) (worker : ℕ) (unit : UnitKey) (o : Outcome) → call_of c ≡ OfWorker worker (Posts part)
     → (is_first part && waits_with_locks s.stored unit) ≡ true → Admits s c → order_for part s.stored s.orders worker ≡ Some unit → is_store_full s ≡ false
-    → MayComeTo s.told s.stored part unit o
+    → o ≡ outcome_in s.stored part unit
     → IsAct s c (unfiled s (call_of c) None (with_mark s.stored unit (kind_for part o))) (reply.Refused refusal.BackupFault)
-unfiled_post part c s worker unit o posts listed room at space may =
-    let found = found_by (Comes o) s in
-    let v = admitted found s c room ∙ own_post part c found s worker (Some unit) posts at ∙ fits s _ space in
-    record {
-      outcome = record { event = BackupFails; reading = Comes o; lost = false };
+unfiled_post part c s worker unit o posts listed room at space out =
+    let v = admitted (found_in s) s c room ∙ own_post part c (found_in s) s worker (Some unit) posts at ∙ fits s _ space in
+    let given : Outcome = outcome_in s.stored part unit in
+    subst (λ x. IsAct s c (unfiled s (call_of c) None (with_mark s.stored unit (kind_for part x))) (reply.Refused refusal.BackupFault)) (sym out)
+    (record {
+      outcome = only BackupFails;
       possible = record {
-        reading = subst (MayRead (Comes o) s) (sym posts) (subst (λ x. IfSome x (λ u. MayComeTo s.told s.stored part u o)) (sym at) may);
+        reading = tt;
         event = (ap leaves v, ap (uses_file s) posts ∙ ap (λ x. is_first part && option_map_or (waits_with_locks s.stored) x false) at ∙ listed);
         lost = tt;
       };
       same = ap (λ w. refused (unfiled s (call_of c) None (stored_before_file s (call_of c) w)) refusal.BackupFault) v
-          ∙ ap (λ b. refused (unfiled s (call_of c) None (if b then with_mark s.stored unit (kind_for part o) else s.stored)) refusal.BackupFault)
+          ∙ ap (λ b. refused (unfiled s (call_of c) None (if b then with_mark s.stored unit (kind_for part given) else s.stored)) refusal.BackupFault)
           (ap writes_store_first posts);
-    }
+    })
 
-pub posts_unfiled : (part : Part) (s : State) (told : Bool) (orders : List (Option UnitKey)) (ledger new : Ledger) (limit worker : ℕ) (unit : UnitKey)
-    (o : Outcome) → (is_first part && waits_with_locks ledger unit) ≡ true → s.told ≡ told → s.orders ≡ orders → s.stored ≡ ledger
+pub posts_unfiled : (part : Part) (s : State) (orders : List (Option UnitKey)) (ledger new : Ledger) (limit worker : ℕ) (unit : UnitKey)
+    (o : Outcome) → (is_first part && waits_with_locks ledger unit) ≡ true → s.orders ≡ orders → s.stored ≡ ledger
     → s.mark_limit ≡ limit → Admits s (post_of part worker) → order_for part ledger orders worker ≡ Some unit → nat_le limit (length ledger.marks) ≡ false
-    → MayComeTo told ledger part unit o → new ≡ with_mark ledger unit (kind_for part o)
+    → o ≡ outcome_in ledger part unit → new ≡ with_mark ledger unit (kind_for part o)
     → IsAct s (post_of part worker) (unfiled s (call_of (post_of part worker)) None new) (reply.Refused refusal.BackupFault)
-posts_unfiled part s told orders ledger new limit worker unit o listed t e g m room found space may c =
+posts_unfiled part s orders ledger new limit worker unit o listed e g m room found space may c =
     let g' : with_mark s.stored unit (kind_for part o) ≡ new = ap (λ l. with_mark l unit (kind_for part o)) g ∙ sym c in
-    let may' : MayComeTo s.told s.stored part unit o = subst (λ x. MayComeTo x s.stored part unit o) (sym t)
-    (subst (λ l. MayComeTo told l part unit o) (sym g) may) in
     subst (λ l. IsAct s (post_of part worker) (unfiled s (call_of (post_of part worker)) None l) (reply.Refused refusal.BackupFault)) g'
     (unfiled_post part (post_of part worker) s worker unit o (post_is part worker) (ap (λ l. is_first part && waits_with_locks l unit) g ∙ listed) room
-    (held part s ledger orders worker (Some unit) g e found) (full_as s limit ledger false m g space) may')
+    (held part s ledger orders worker (Some unit) g e found) (full_as s limit ledger false m g space)
+    (may ∙ ap (λ (l : Ledger). outcome_in l part unit) (sym g)))
 
 pub posts_wanting : (part : Part) (s : State) (orders : List (Option UnitKey)) (entries : List Entry) (ledger new : Ledger) (worker : ℕ) (unit : UnitKey)
     → s.orders ≡ orders → (is_first part ≡ true → s.locks ≡ entries) → s.stored ≡ ledger → new ≡ ledger → Admits s (post_of part worker)
@@ -556,7 +519,7 @@ reads_in_doubt s sessions name table key x e none room at =
     record {
       outcome = only StoreFails;
       possible = record { reading = tt; event = (ap leaves v, refl); lost = tt };
-      same = ap (λ w. refused (doubted s (OfSession name (Reads table key)) None (in_flight_after AsKnown s (OfSession name (Reads table key)) w))
+      same = ap (λ w. refused (doubted s (OfSession name (Reads table key)) None (in_flight_after s (OfSession name (Reads table key)) w))
           refusal.StoreFault) v
           ∙ ap (λ p. refused (doubted s (OfSession name (Reads table key)) None p) refusal.StoreFault) none;
     }

@@ -34,7 +34,7 @@ use Rattle.ledger_steps.specs.Steps.{waiting_for}
 use Rattle.hall_model.specs.declared.command.Command.{Command}
 use Rattle.hall_model.specs.declared.command.PastEntry.{PastEntry}
 use Rattle.hall_model.specs.declared.command.Session.{Session}
-use Rattle.hall_model.specs.Devices.{DeviceOutcome, Event, AllWell, Wanting, StoreFails, BackupFails, LinkFails, NotRemade, IsAllowed, IsTold, MayRead, found_by, Reading, AsKnown, Comes, Shows, Reopens, Hands}
+use Rattle.hall_model.specs.Devices.{DeviceOutcome, Event, AllWell, Wanting, StoreFails, BackupFails, LinkFails, NotRemade, IsAllowed, IsTold, MayRead, found_by, Reading, AsKnown, Shows, Reopens, Hands}
 use Rattle.hall_model.specs.History.{doubted, ends_in, had_lock, in_flight_after, judged, known_behind, read_anew, served, stored_before_file, unfiled, without_stock}
 use Rattle.number_ranges.specs.Intervals.{block_level, is_buffered, with_level}
 use Rattle.number_ranges.specs.declared.interval.Interval.{Interval}
@@ -921,13 +921,13 @@ failing-holds n s call in_flight may known h =
     (λ name parts stock fits. doubted-holds n (stocked stock s) (OfSession name (Commits parts stock)) None in_flight known (stocked-holds n s stock fits h))
     (λ c free. doubted-holds n s c None in_flight known h) call may
 
-failing_known : (reading : Reading) (found : Found) (s : State) (call : Call) → IsSteady s
-    → IsKnownRight s.found s.stored (in_flight_after reading s call (call_verdict found s call))
-failing_known reading found s call steady =
-    let in_flight = in_flight_after reading s call (call_verdict found s call) in
+failing_known : (found : Found) (s : State) (call : Call) → IsSteady s
+    → IsKnownRight s.found s.stored (in_flight_after s call (call_verdict found s call))
+failing_known found s call steady =
+    let in_flight = in_flight_after s call (call_verdict found s call) in
     by_condition (IsKnownRight s.found s.stored in_flight) s steady
     (λ quiet. unread_known s.found s.stored in_flight quiet.found)
-    (λ k down. subst (IsKnownRight s.found s.stored) (sym (in_flight_stays reading found s k call down)) steady.known)
+    (λ k down. subst (IsKnownRight s.found s.stored) (sym (in_flight_stays found s k call down)) steady.known)
 
 -- what a state in doubt needs of what is stored, where its sessions are as they were
 abbrev StoredHolds : ℕ → State → Call → Option Bool → Ledger → Type 0
@@ -998,7 +998,6 @@ unfiled-holds n found s call read before none h =
 read_known : (reading : Reading) (s : State) (call : Call) → MayRead reading s call → IsKnownRight s.found s.stored s.in_flight
     → IsKnownRight (known_behind s.found (read_anew reading)) s.stored s.in_flight
 read_known AsKnown s call may h = h
-read_known (Comes outcome) s call may h = h
 read_known (Shows text) s call may h = h
 read_known (Reopens taken) s call may h = (may_find taken s call may).flight
 read_known (Hands list) s call may h = h
@@ -1028,7 +1027,7 @@ ended-holds n AllWell reading s call may read sound units state_in_flight h =
     (list_told reading s call read) h
 ended-holds n Wanting reading s call may read sound units state_in_flight h = holds_more n s h
 ended-holds n StoreFails reading s call may read sound units state_in_flight h =
-    failing-holds n s call _ may (failing_known reading (found_by reading s) s call h.steady) h
+    failing-holds n s call _ may (failing_known (found_by reading s) s call h.steady) h
 ended-holds n BackupFails reading s call may read sound units state_in_flight h = failed_filing-holds n reading s call read h
 ended-holds n LinkFails reading s call may read sound units state_in_flight h = detached-holds (n + 1) s (holds_more n s h)
 ended-holds n (NotRemade fault) reading s call may read sound units state_in_flight h =

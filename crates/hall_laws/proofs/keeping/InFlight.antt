@@ -1,6 +1,6 @@
 -- With a change in flight there is a state in order; and so all that calls keep is kept by each of them.
 use Rattle.std.proofs.Common.{◌≡◌, ℕ, ◌+◌, ◌≤◌, Bool, true, false, cond, List, [], ◌∷◌, ◌++◌, length, refl, sym, ap, ◌∙◌, subst, arith}
-use Rattle.std.specs.Prelude.{◌&&◌, ◌||◌, if◌then◌else◌, not, IsTrue, Option, Some, None}
+use Rattle.std.specs.Prelude.{◌&&◌, if◌then◌else◌, not, IsTrue, Option, Some, None}
 use Rattle.std.specs.List.{AllByRecursion}
 use Rattle.std.proofs.lemmas.Bool.{false≢true}
 use Rattle.std.proofs.lemmas.List.{length-append}
@@ -20,7 +20,7 @@ use Rattle.hall_model.specs.declared.command.Session.{Session}
 use Rattle.hall_model.specs.Acts.{IsAct}
 use Rattle.hall_model.specs.Calls.{Call, LogsOn, OfSession, OfWorker, OfAdmin, Kills, FailsOver, Restarts, Attaches, Cancels, Resubmits, Takes, Posts, Drops, call_of, only_reads, restarts, LogsOff, Asks, Frees, FreesAll, Converts, Draws, Reserves, Reads, Commits, RollsBack}
 use Rattle.hall_model.specs.Devices.{DeviceOutcome, Event, AllWell, Wanting, StoreFails, BackupFails, LinkFails, NotRemade, IsAllowed, IsTold, MayHappen, MayRead, Reading, found_by}
-use Rattle.hall_model.specs.History.{caller_behind, doubted, ends_in, had_lock, in_flight_after, is_unread, judged, read_anew, served, step, stored_before_file, takes_flight, unfiled, with_entry, without_stock}
+use Rattle.hall_model.specs.History.{caller_behind, doubted, ends_in, had_lock, in_flight_after, judged, read_anew, served, step, stored_before_file, takes_flight, unfiled, with_entry, without_stock}
 use Rattle.hall_model.specs.Kept.{AreSameButCaller, CanStand, HasFew, HasGoodLocks, HasOpenUnits, HasSoundLocks, HasStateInFlight, IsKept, IsMovedOn, MayHaveMoved}
 use Rattle.hall_model.specs.Numbers.{drawn, next_number, raised_to, stocked}
 use Rattle.hall_model.specs.OpenUnits.{OfInFlight}
@@ -212,11 +212,11 @@ nothing_in_flight : (o : Option Ledger) (Q : Ledger → Type 0) → o ≡ None �
 nothing_in_flight o Q none = subst (λ p. OfInFlight p Q) (sym none) tt
 
 -- what is so of what the call leaves stored is so of the change in flight, if there was none before
-failing_flies : (Q : Ledger → Type 0) (reading : Reading) (s : State) (call : Call) (v : Verdict) → s.in_flight ≡ None → IsTrue (leaves v)
-    → Q (judged s v).state.stored → OfInFlight (in_flight_after reading s call v) Q
-failing_flies Q reading s call (Refuses r) none is h = no_leaving is
-failing_flies Q reading s call (Leaves after r) none is h =
-    elim (only_reads call || is_unread reading call) as (λ b. OfInFlight (if b then s.in_flight else Some after.stored) Q) [
+failing_flies : (Q : Ledger → Type 0) (s : State) (call : Call) (v : Verdict) → s.in_flight ≡ None → IsTrue (leaves v)
+    → Q (judged s v).state.stored → OfInFlight (in_flight_after s call v) Q
+failing_flies Q s call (Refuses r) none is h = no_leaving is
+failing_flies Q s call (Leaves after r) none is h =
+    elim (only_reads call) as (λ b. OfInFlight (if b then s.in_flight else Some after.stored) Q) [
       | true ↦ nothing_in_flight s.in_flight Q none
       | false ↦ h
     ]
@@ -293,22 +293,22 @@ anew_in_flight : (n : ℕ) (found : Found) (s : State) → HoldsAll n s → HasS
 anew_in_flight n found s h = restart_in_flight (is_taken found.anew) s h.sound.stored h.holds.steady h.open_units h.state_in_flight
 
 -- the store fails
-failing_in_flight : (n : ℕ) (reading : Reading) (found : Found) (s : State) (call : Call) → MayCall s call → IsTold s.link_told (found.list ≡ s.locks)
+failing_in_flight : (n : ℕ) (found : Found) (s : State) (call : Call) → MayCall s call → IsTold s.link_told (found.list ≡ s.locks)
     → HoldsAll n s
     → IsTrue (leaves (call_verdict found s call))
-    → HoldsInFlight (doubted (without_stock call s) call None (in_flight_after reading s call (call_verdict found s call)))
-failing_in_flight n reading found s call may told h =
+    → HoldsInFlight (doubted (without_stock call s) call None (in_flight_after s call (call_verdict found s call)))
+failing_in_flight n found s call may told h =
     let steady = h.holds.steady in
     let fair : IsFair (is_honest s) (judged s (call_verdict found s call)).state.stored = record {
       together = verdict-together found s call steady h.sound h.open_units h.state_in_flight;
       units = verdict-stored found s call steady h.sound h.open_units h.state_in_flight;
     } in
-    let P : Call → Verdict → Type 0 = λ c v. IsTrue (leaves v) → HoldsInFlight (doubted (without_stock c s) c None (in_flight_after reading s c v)) in
+    let P : Call → Verdict → Type 0 = λ c v. IsTrue (leaves v) → HoldsInFlight (doubted (without_stock c s) c None (in_flight_after s c v)) in
     by_condition (P call (call_verdict found s call)) s steady
     (λ quiet is.
     let v = call_verdict found s call in
-    let in_flight = in_flight_after reading s call v in
-    failing_flies (HasStateInFlight (doubted (without_stock call s) call None in_flight)) reading s call v quiet.in_flight is
+    let in_flight = in_flight_after s call v in
+    failing_flies (HasStateInFlight (doubted (without_stock call s) call None in_flight)) s call v quiet.in_flight is
     (by_made (LeavesInFlight s) found s (each_in_flight n found s h.sound (anew_in_flight n found s h) told quiet.found h.holds) call may is fair in_flight))
     (λ k down. by_doubt P found s k call down (λ c r is. no_leaving is) (λ is. unmade_in_flight s None h.state_in_flight))
 
@@ -340,7 +340,7 @@ ended_in_flight : (n : ℕ) (e : Event) (reading : Reading) (s : State) (call : 
     → HoldsInFlight (ends_in e reading s call (call_verdict (found_by reading s) s call)).state
 ended_in_flight n AllWell reading s call may read happens h = done_in_flight n (found_by reading s) s call h
 ended_in_flight n Wanting reading s call may read happens h = h.state_in_flight
-ended_in_flight n StoreFails reading s call may read happens h = failing_in_flight n reading (found_by reading s) s call may
+ended_in_flight n StoreFails reading s call may read happens h = failing_in_flight n (found_by reading s) s call may
     (list_told reading s call read) h happens.0
 ended_in_flight n BackupFails reading s call may read happens h = unfiled_in_flight n (read_anew reading) (found_by reading s) s call h happens.0
 ended_in_flight n LinkFails reading s call may read happens h = detached_in_flight s h.state_in_flight

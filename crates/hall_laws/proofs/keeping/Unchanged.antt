@@ -7,7 +7,7 @@ use Rattle.enq_base.specs.declared.condition.Condition.TheVariants as condition
 use Rattle.lock_entry.specs.declared.entry.Entry.{Entry}
 use Rattle.hall_model.specs.Acts.{IsTelling}
 use Rattle.hall_model.specs.Calls.{Kills, FailsOver, Restarts, Attaches, Cancels, Resubmits, Call, LogsOn, OfSession, OfWorker, OfAdmin, call_of, is_of_server, restarts}
-use Rattle.hall_model.specs.Devices.{DeviceOutcome, Event, AllWell, Wanting, StoreFails, BackupFails, LinkFails, NotRemade, IsTold, MayFind, MayRead, found_by, Reading, AsKnown, Comes, Shows, Reopens, Hands}
+use Rattle.hall_model.specs.Devices.{DeviceOutcome, Event, AllWell, Wanting, StoreFails, BackupFails, LinkFails, NotRemade, IsTold, MayFind, MayRead, found_by, Reading, AsKnown, Shows, Reopens, Hands}
 use Rattle.hall_model.specs.History.{IsStep, Served, doubted, in_flight_after, is_unrecorded, judged, noted, past_entry, read_anew, served, step, takes_flight, with_entry, without_stock}
 use Rattle.hall_model.specs.Recall.{HasBegun}
 use Rattle.hall_model.specs.Numbers.{drawn, raised_to}
@@ -228,8 +228,7 @@ served_becomes o s c =
     elim o.event as (λ e. Becomes (leaves_doubt e) s.condition (served (record { event = e; reading = o.reading; lost = o.lost }) s c).state.condition) [
       | AllWell ↦ stays_or_ends false _ _ (verdict_doubt _ s (call_of c))
       | Wanting ↦ inl refl
-      | StoreFails ↦ inr
-          (inr (refl, (length s.past, failing_past s (call_of c) (in_flight_after o.reading s (call_of c) (verdict (found_by o.reading s) s c)))))
+      | StoreFails ↦ inr (inr (refl, (length s.past, failing_past s (call_of c) (in_flight_after s (call_of c) (verdict (found_by o.reading s) s c)))))
       | BackupFails ↦ inr (inr (refl, (length s.past, refl)))
       | LinkFails ↦ inl refl
       | NotRemade fault ↦ inr (inr (refl, (length s.past, refl)))
@@ -251,7 +250,6 @@ may_find taken s call = by_restart (λ c. MayRead (Reopens taken) s c → MayFin
 -- any other call reads nothing of the change in flight
 pub reads_none : (reading : Reading) (s : State) (call : Call) → restarts call ≡ false → MayRead reading s call → read_anew reading ≡ None
 reads_none AsKnown s call off may = refl
-reads_none (Comes outcome) s call off may = refl
 reads_none (Shows text) s call off may = refl
 reads_none (Reopens taken) s call off may = absurd (reads_anew taken s call off may)
 reads_none (Hands list) s call off may = refl
@@ -276,7 +274,6 @@ hands_told list s (OfAdmin (Resubmits unit)) may = absurd may
 -- where the link tells its list, it is the one of the state
 pub list_told : (reading : Reading) (s : State) (call : Call) → MayRead reading s call → IsTold s.link_told ((found_by reading s).list ≡ s.locks)
 list_told AsKnown s call may = told_refl s.link_told s.locks
-list_told (Comes outcome) s call may = told_refl s.link_told s.locks
 list_told (Shows text) s call may = told_refl s.link_told s.locks
 list_told (Reopens taken) s call may = told_refl s.link_told s.locks
 list_told (Hands list) s call may = hands_told list s call may

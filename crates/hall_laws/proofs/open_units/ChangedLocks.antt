@@ -19,7 +19,7 @@ use Rattle.update_records.specs.Ledger.{Ledger}
 use Rattle.update_records.specs.declared.records.MarkKind.TheVariants as mark
 use Rattle.hall_model.specs.Calls.{Call, call_of, only_reads, restarts, wants_server, writes_store_first}
 use Rattle.hall_model.specs.Devices.{DeviceOutcome, Event, AllWell, Wanting, StoreFails, BackupFails, LinkFails, NotRemade, IsAllowed, IsTold, MayBeDone, MayHappen, Reading, found_by}
-use Rattle.hall_model.specs.History.{doubted, ends_in, in_flight_after, is_unread, judged, served, stored_before_file, without_stock}
+use Rattle.hall_model.specs.History.{doubted, ends_in, in_flight_after, judged, served, stored_before_file, without_stock}
 use Rattle.hall_model.specs.Kept.{CanStand, HasGoodLocks, HasOpenUnits, HasSoundLocks, HasStateInFlight, IsSteady, OutsideDoubt, WhileListed, WhileUp}
 use Rattle.hall_model.specs.Numbers.{drawn, next_number, raised_to}
 use Rattle.hall_model.specs.OpenUnits.{HoldsOpenUnits, OfInFlight, open_entries}
@@ -360,11 +360,11 @@ module _ (found : Found) (s : State) (steady : IsSteady s) (sound : HasSoundLock
 -- ---- any event
 
 -- what is so of the change in flight, and of what the call leaves stored, is so of the change in flight where the store fails
-pub flying : (Q : Ledger → Type 0) (reading : Reading) (s : State) (call : Call) (v : Verdict) → OfInFlight s.in_flight Q → Q (judged s v).state.stored
-    → OfInFlight (in_flight_after reading s call v) Q
-flying Q reading s call (Refuses r) before h = before
-flying Q reading s call (Leaves after r) before h =
-    elim (only_reads call || is_unread reading call) as (λ b. OfInFlight (if b then s.in_flight else Some after.stored) Q) [ true ↦ before | false ↦ h ]
+pub flying : (Q : Ledger → Type 0) (s : State) (call : Call) (v : Verdict) → OfInFlight s.in_flight Q → Q (judged s v).state.stored
+    → OfInFlight (in_flight_after s call v) Q
+flying Q s call (Refuses r) before h = before
+flying Q s call (Leaves after r) before h =
+    elim (only_reads call) as (λ b. OfInFlight (if b then s.in_flight else Some after.stored) Q) [ true ↦ before | false ↦ h ]
 
 -- what the store has where the disk fails
 filed : (Q : Ledger → Type 0) (s : State) (call : Call) (v : Verdict) → Q s.stored → Q (judged s v).state.stored → Q (stored_before_file s call v)
@@ -387,7 +387,7 @@ ended-open Wanting reading s call steady sound h state_in_flight told may = h
 ended-open StoreFails reading s call steady sound h state_in_flight told may =
     let found = found_by reading s in
     failing-open s call _ h
-    (flying (λ ledger. IsTrue (is_honest s) → IsSound (open_entries ledger)) reading s call (call_verdict found s call) h.in_flight
+    (flying (λ ledger. IsTrue (is_honest s) → IsSound (open_entries ledger)) s call (call_verdict found s call) h.in_flight
     (λ sure. (verdict-together found s call steady sound h state_in_flight sure).together))
 ended-open BackupFails reading s call steady sound h state_in_flight told may =
     let found = found_by reading s in

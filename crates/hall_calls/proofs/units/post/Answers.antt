@@ -19,11 +19,11 @@ returns g c =
     let left = c.post_held-written.new.locks in
     let after = c.post_held-written.new.books in
     record {
-      act = λ s told orders locks stored limit none room.
+      act = λ s orders locks stored limit room.
           subst (λ os. IsWritten s (post_of c.args.call.part c.args.call.worker)
           (record s { orders = os; locks = locks_posted c.args.call.part s.locks left.table.entries; stored = after.ledger }) written)
           (ap (λ os. orders_behind os c.args.call.worker written) orders ∙ sym c.end_order.ensures)
-          (h.act s told (orders ∙ sym c.as_slice.ensures.value) locks stored limit none room);
+          (h.act s (orders ∙ sym c.as_slice.ensures.value) locks stored limit room);
       limit = h.serves.limit;
       standing = h.serves.standing;
       file = h.file;

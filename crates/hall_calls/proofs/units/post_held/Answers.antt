@@ -30,8 +30,8 @@ returns-in-Ok g c =
     (nat_le c.args.call.max_marks (length ledger.marks)) c.args.call.max_marks
     c.in-Ok.unit (sym c.to_post.ensures ∙ c.in-Ok.is) in
     record {
-      act = λ s told orders locks stored limit none room.
-          c.post_unit.ensures.act s c.args.call.worker told locks stored none room
+      act = λ s orders locks stored limit room.
+          c.post_unit.ensures.act s c.args.call.worker locks stored room
           (ap (λ os. order_for c.args.call.part ledger os c.args.call.worker) orders ∙ can.0)
           (ap (λ n. nat_le n (length ledger.marks)) limit ∙ can.1);
       serves = c.post_unit.ensures.serves;
@@ -51,7 +51,7 @@ returns-in-Err g c =
     let why = not_posted order full c.args.call.max_marks r (sym c.to_post.ensures ∙ c.in-Err.is) in
     let plain = not_posted_plainly order full c.args.call.max_marks r why in
     record {
-      act = λ s told orders locks stored limit none room.
+      act = λ s orders locks stored limit room.
           posts_not c.args.call.part s s.orders c.args.locks.now.table.entries ledger c.args.call.max_marks c.args.call.worker r refl locks stored limit room
           (subst (λ os. IsNotPosted (order_for c.args.call.part ledger os c.args.call.worker) full c.args.call.max_marks r) (sym orders) why);
       serves = serves_still g.L.Link.applied g.L.Link.faults g.L.Link.refusals c.args.locks.now;

@@ -2,7 +2,7 @@ use Rattle.std.proofs.Common.{List, inl, inr, refl, subst}
 use Rattle.std.proofs.Math.Logic.{∥∥₁_map}
 use Rattle.actor_threads.specs.declared.actor.Deed.{Deed}
 use Rattle.hall_model.specs.State.{State}
-use Rattle.thread_report.specs.Writing.{IsWritten}
+use Rattle.thread_runner.specs.Writing.{IsWritten}
 use Rattle.thread_runner.proofs.Written.{have_done}
 use Rattle.thread_runner.proofs.running.do_script.Goals as goal
 

@@ -1,7 +1,8 @@
 use Rattle.std.proofs.Common.{◌≡◌, ◌∙◌, refl, sym, ap, subst, is_some, true}
 use Rattle.std.specs.Prelude.{IfSome}
 use Rattle.keeper_api.specs.Keeping.{IsWithin}
-use Rattle.posting.specs.Reopening.{HasStood}
+use Rattle.keeper_api.specs.Rows.{Rows}
+use Rattle.posting.specs.Reopening.{HasStood, MayBeLeftBy}
 use Rattle.ledger_steps.specs.Starts.{IsRaised}
 use Rattle.ledger_steps.specs.Levels.{intervals_of}
 use Rattle.store_reading.specs.Good.{IsSound}
@@ -39,6 +40,15 @@ returns-clause-stored g c =
 pub returns-clause-sound : goal.returns-clause-sound
 returns-clause-sound g c =
     ok_more c.over.result _ _ (λ hall h. subst (IsRaised IsSound true) (sym (ap (λ (s : State). s.stored) h)) c.in-Ok-open.ensures.sound) c.over.ensures.state
+
+pub returns-clause-begun : goal.returns-clause-begun
+returns-clause-begun g c =
+    let held = g.K.Keeper.held in
+    let leaves = g.K.Keeper.may_leave in
+    ok_more c.over.result _ _
+    (λ hall k.
+    subst (λ q. IfSome (held q) (λ _. (left : Rows) → leaves q left → MayBeLeftBy (leaves c.args.keeper) true left)) (sym k) c.in-Ok-open.ensures.left)
+    c.over.ensures.keeper
 
 pub returns-clause-fault : goal.returns-clause-fault
 returns-clause-fault g c =

@@ -65,7 +65,7 @@ returns g c =
           subst (λ ls. IsWritten s (post_of c.args.part c.args.worker)
           (record s { orders = called.new.orders.items; locks = ls; stored = called.new.books.ledger }) called.result)
           (posted_in g.L.Link.applied old.condition old.max_locks c.args.part old.locks called.new.locks on called.ensures.second called.ensures.unshipped)
-          (called.ensures.act s refl refl (λ first. ap (λ k. (locks_of g.L.Link.applied k old.max_locks old.locks).entries) (on first)) refl refl none room);
+          (called.ensures.act s refl (λ first. ap (λ k. (locks_of g.L.Link.applied k old.max_locks old.locks).entries) (on first)) refl refl room);
     })
     (subst (λ x. DoesStore g.K.Keeper.held g.K.Keeper.may_leave g.K.Keeper.faults (restarts x) (reaches_store start x) old.books.keeper
     called.new.books.keeper (written_reply called.result)) (sym by)

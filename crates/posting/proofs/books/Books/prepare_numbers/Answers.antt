@@ -1,4 +1,8 @@
-use Rattle.std.proofs.Common.{◌≡◌, ℕ, ◌+◌, List, ap, ◌∙◌}
+use Rattle.std.proofs.Common.{◌≡◌, ℕ, ◌+◌, List, sym, ap, ◌∙◌}
+use Rattle.module_effects.specs.Spots.{with_spots}
+use Rattle.module_effects.specs.declared.spot.Spot.{Spot}
+use Rattle.posting.specs.Mirrors.{business}
+use Rattle.posting.proofs.LeftRows.{draw_leaves}
 use Rattle.enq_base.specs.declared.unit.Num.{Num as Number}
 use Rattle.update_records.specs.Growing.{next_mark}
 use Rattle.update_records.specs.declared.records.MarkKind.TheVariants.{Num}
@@ -23,3 +27,8 @@ prepare-requires-clause-makes g c =
     c.requires.marks c.requires.drawing c.requires.store c.in_ok-batch.ensures.key c.in_ok-batch.ensures.fields c.start.ensures is
     (c.from_vec.ensures ∙ c.in_ok-from_slice-2.ensures.items) (c.from_vec-2.ensures ∙ c.in_ok-from_slice-3.ensures.items) c.in_ok-batch.ensures.rows
     c.requires.usable.stands
+
+pub prepare-requires-clause-leaves : goal.prepare-requires-clause-leaves
+prepare-requires-clause-leaves g c =
+    draw_leaves c.args.self.now.ledger c.args.unit.now c.from_vec.result c.from_vec-2.result
+    ∙ sym (ap (λ (ss : List Spot). with_spots ss (business c.args.self.now.ledger)) c.new.ensures.items)

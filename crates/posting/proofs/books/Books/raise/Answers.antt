@@ -1,4 +1,7 @@
-use Rattle.std.proofs.Common.{◌+◌, ◌^◌, ◌<◌, ◌∷◌, [], true, ap, ◌∙◌, arith}
+use Rattle.std.proofs.Common.{◌+◌, ◌^◌, ◌<◌, ◌∷◌, [], List, true, sym, ap, ◌∙◌, arith}
+use Rattle.module_effects.specs.Spots.{with_spots}
+use Rattle.module_effects.specs.declared.spot.Spot.{Spot}
+use Rattle.posting.specs.Mirrors.{business}
 use Rattle.update_records.specs.Growing.{with_start}
 use Rattle.update_records.specs.RecordRows.{meta_row}
 use Rattle.ledger_steps.specs.Starts.{raised}
@@ -16,6 +19,9 @@ prepare-requires-clause-makes g c =
     start_makes (g.K.Keeper.held c.args.self.now.keeper) c.in-Ok.batch.items c.args.self.now.ledger (c.start-start.result + 1)
     (ap (λ n. n + 1) c.start-start.ensures) small
     (c.in-Ok.ensures ∙ ap (λ n. meta_row (c.start-start.result + 1) n ∷ []) c.marks.ensures) c.requires.usable.stands
+
+pub prepare-requires-clause-leaves : goal.prepare-requires-clause-leaves
+prepare-requires-clause-leaves g c = sym (ap (λ (ss : List Spot). with_spots ss (business c.args.self.now.ledger)) c.new.ensures.items)
 
 pub returns-in-Ok-write-clause-left : goal.returns-in-Ok-write-clause-left
 returns-in-Ok-write-clause-left g c =

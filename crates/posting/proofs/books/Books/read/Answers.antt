@@ -15,4 +15,4 @@ returns-clause-text g c =
     (sym c.self.view_is) c.requires.usable.stands in
     subst (λ (s : BooksView g.row.K.Denot). IfOk c.read_text.result
     (λ text. IfSome (held s.keeper) (λ _. text ≡ get (tables_of s.ledger.units s.ledger.marks) name))) c.self.view_is
-    (all_read c.read_text.result (held c.self.inside.keeper) c.self.inside.register.ledger name stands c.read_text.ensures.text)
+    (all_read c.read_text.result (held c.self.inside.keeper) c.self.inside.mirror.ledger name stands c.read_text.ensures.text)

@@ -1,9 +1,22 @@
-use Rattle.std.proofs.Common.{◌∙◌, ap}
+use Rattle.std.proofs.Common.{◌≤◌, ◌∙◌, length, sym, ap, subst}
 use Rattle.posting.specs.BooksView.{BooksView}
 use Rattle.ledger_steps.specs.Steps.{Plan, after_step}
 use Rattle.posting.proofs.lemmas.LedgerNumbers.{made_of_parts, written_numbers}
+use Rattle.posting.proofs.ReadyPlans.{same_leaves}
 use Rattle.posting.proofs.WrittenBooks.{either_left, same_left, written_stand}
 use Rattle.posting.proofs.books.Books.write.Goals as goal
+
+pub add-requires-clause-places : goal.add-requires-clause-places
+add-requires-clause-places g c =
+    subst (λ ss. length ss ≤ c.self.inside.mirror.places) (sym (c.into_vec.ensures ∙ ap (λ (p : Plan). p.rows) c.prepared.view_is))
+    (subst (λ (s : BooksView _). length c.args.prepared.rows ≤ s.places) (sym c.self.view_is) c.requires.ready.places)
+
+pub add-requires-clause-leaves : goal.add-requires-clause-leaves
+add-requires-clause-leaves g c =
+    same_leaves c.self.inside.mirror.ledger c.args.self.now.ledger c.prepared.inside.step c.args.prepared.step c.into_vec.result.items
+    c.args.prepared.rows
+    (ap (λ (s : BooksView _). s.ledger) c.self.view_is) (ap (λ (p : Plan). p.step) c.prepared.view_is)
+    (c.into_vec.ensures ∙ ap (λ (p : Plan). p.rows) c.prepared.view_is) c.requires.ready.leaves
 
 -- ---- the commit failed
 
@@ -31,7 +44,7 @@ returns-clause-done g c =
 pub returns-clause-usable : goal.returns-clause-usable
 returns-clause-usable g c =
     let held = g.K.Keeper.held in
-    let ledger = c.self.inside.register.ledger in
+    let ledger = c.self.inside.mirror.ledger in
     let made = made_of_parts held c.self.inside.keeper c.args.self.now.keeper ledger c.args.self.now.ledger c.as_slice.result.now c.args.prepared.batch
     c.prepared.inside.step c.args.prepared.step
     (ap (λ (s : BooksView _). s.keeper) c.self.view_is) (ap (λ (s : BooksView _). s.ledger) c.self.view_is)
@@ -46,7 +59,7 @@ returns-clause-usable g c =
 pub returns-clause-numbers : goal.returns-clause-numbers
 returns-clause-numbers g c =
     let held = g.K.Keeper.held in
-    let ledger = c.self.inside.register.ledger in
+    let ledger = c.self.inside.mirror.ledger in
     let made = made_of_parts held c.self.inside.keeper c.args.self.now.keeper ledger c.args.self.now.ledger c.as_slice.result.now c.args.prepared.batch
     c.prepared.inside.step c.args.prepared.step
     (ap (λ (s : BooksView _). s.keeper) c.self.view_is) (ap (λ (s : BooksView _). s.ledger) c.self.view_is)

@@ -9,16 +9,16 @@ use Rattle.turn_desks.proofs.Led.{CallCounts, begun_is_prefix, desk_step, led_ca
 use Rattle.turn_desks.proofs.Ups.{up_step}
 use Rattle.turn_desks.proofs.served.ServedHallServing.serve.Goals as goal
 
-pub serve-reply-requires : goal.serve-reply-requires
-serve-reply-requires g c = no_stock_may c.args.self.now.hall.state _ c.requires.stock
+pub serve_worked-reply-requires : goal.serve_worked-reply-requires
+serve_worked-reply-requires g c = no_stock_may c.args.self.now.hall.state _ c.requires.stock
 
 pub invariant_of-self : goal.invariant_of-self
 invariant_of-self g c =
     let was = c.args.self.now in
     let old = was.hall in
-    let new = c.serve-reply.new.self in
-    let call = c.serve-reply.ensures in
-    let reply = c.serve-reply.result in
+    let new = c.serve_worked-reply.new.self in
+    let call = c.serve_worked-reply.ensures in
+    let reply = c.serve_worked-reply.result in
     let n = c.args.line in
     let cmd = c.args.command in
     let faults = g.L.Link.faults in
@@ -45,20 +45,21 @@ invariant_of-self g c =
     }
 
 pub returns-clause-told : goal.returns-clause-told
-returns-clause-told g c = desk_step _ _ _ _ _ c.serve-reply.ensures.step
+returns-clause-told g c = desk_step _ _ _ _ _ c.serve_worked-reply.ensures.step
 
 pub returns-clause-grows : goal.returns-clause-grows
-returns-clause-grows g c = begun_is_prefix _ _ c.serve-reply.ensures.begun
+returns-clause-grows g c = begun_is_prefix _ _ c.serve_worked-reply.ensures.begun
 
 pub returns-clause-up : goal.returns-clause-up
 returns-clause-up g c =
     let old = c.args.self.now.hall in
-    let new = c.serve-reply.new.self in
+    let new = c.serve_worked-reply.new.self in
     c.is_up-is_up.ensures
-    ∙ (ap is_up c.condition.ensures ∙ up_step old.state new.state c.args.line c.args.command c.serve-reply.result c.serve-reply.ensures.step c.args.self.now.up)
+    ∙ (ap is_up c.condition.ensures ∙ up_step old.state new.state c.args.line c.args.command c.serve_worked-reply.result c.serve_worked-reply.ensures.step
+    c.args.self.now.up)
 
 pub returns-clause-full : goal.returns-clause-full
-returns-clause-full g c = c.histories_end.ensures.full _ _ _ _ _ c.serve-reply.ensures.step
+returns-clause-full g c = c.histories_end.ensures.full _ _ _ _ _ c.serve_worked-reply.ensures.step
 
 pub returns-clause-posts : goal.returns-clause-posts
-returns-clause-posts g c = c.posts_are_not_idle.ensures.posts _ _ _ _ _ c.serve-reply.ensures.step
+returns-clause-posts g c = c.posts_are_not_idle.ensures.posts _ _ _ _ _ c.serve_worked-reply.ensures.step

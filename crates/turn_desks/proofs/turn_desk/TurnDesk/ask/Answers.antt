@@ -7,13 +7,13 @@ pub invariant_of-self : goal.invariant_of-self
 invariant_of-self g c =
     let past = g.S.History.past in
     let was = c.args.self.now in
-    let ran = c.with-look.ensures.ran in
-    let r = c.with-look.result.reply in
-    let up = c.with-look.result.is_up in
+    let ran = c.with-turned.ensures.ran in
+    let r = c.with-turned.result.look.reply in
+    let up = c.with-turned.result.look.is_up in
     let asked = asked_turn past c.args.at c.args.command r up _ _ ran in
     record {
       of_lock = was.of_lock;
-      own = c.with-look.ensures.own ∙ was.of_lock;
+      own = c.with-turned.ensures.own ∙ was.of_lock;
       one = same_parts past _ _ _ ran ∙ was.one;
       part = part_kept past _ _ _ ran was.part;
       full = λ yes.
@@ -23,4 +23,4 @@ invariant_of-self g c =
 
 pub returns-clause-asked : goal.returns-clause-asked
 returns-clause-asked g c =
-    asked_turn g.S.History.past c.args.at c.args.command c.with-look.result.reply c.with-look.result.is_up _ _ c.with-look.ensures.ran
+    asked_turn g.S.History.past c.args.at c.args.command c.with-turned.result.look.reply c.with-turned.result.look.is_up _ _ c.with-turned.ensures.ran

@@ -1,0 +1,4 @@
+pub mod Keys
+pub mod Sameness
+pub mod Kept
+pub mod Touched

@@ -1,5 +1,0 @@
-use Rattle.doubt_laws.proofs.Causes.{file_rose, store_rose}
-use Rattle.doubt_laws.proofs.laws.doubts_have_causes.Goals as goal
-
-pub returns : goal.returns
-returns c = record { store = store_rose; file = file_rose }

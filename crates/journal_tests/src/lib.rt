@@ -1,5 +1,0 @@
-//! Whole starts over a journal that is cut, damaged or left by a stop.
-#![tactic(auto)]
-
-#[cfg(test)]
-mod starts;

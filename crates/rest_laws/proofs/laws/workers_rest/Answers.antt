@@ -1,6 +1,0 @@
-use Rattle.rest_laws.proofs.Ending.{rests_at_end}
-use Rattle.rest_laws.proofs.LastLook.{none_waits_rested}
-use Rattle.rest_laws.proofs.laws.workers_rest.Goals as goal
-
-pub returns : goal.returns
-returns c = record { rest = rests_at_end; none = none_waits_rested }
