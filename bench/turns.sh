@@ -1,7 +1,8 @@
 #!/bin/sh
 # Times two loads on threads, each beside what it is measured by:
 #   100,000 turns of each of four threads on the ticket lock, beside a std::mutex in C++: at most 3 times as long;
-#   100,000 draws of each of four threads from one stock, beside one thread that draws as much: at most 6 times as long.
+#   100,000 draws of each of four threads from one stock, beside one thread that draws as much: at most 6 times as long; and beside
+#   the turns above, in each of which a counter is raised: no longer.
 # A word: how many rounds a run makes (5). Each time is the best of five runs. Ends with status 1 where one is too long.
 set -eu
 cd "$(dirname "$0")/.."
@@ -46,4 +47,5 @@ compare "turns of the lock beside a mutex" "$turns" "$mutex" 3 || status=1
 alone=$(best "$load" draws-alone "$each" "$rounds")
 draws=$(best "$load" draws "$each" "$rounds")
 compare "draws by four threads beside one" "$draws" "$alone" 6 || status=1
+compare "draws by four threads beside a counter under the lock" "$draws" "$turns" 1 || status=1
 exit $status

@@ -1,24 +1,10 @@
 -- A call of a worker at the hall itself.
 use Rattle.std.proofs.Common.{◌≡◌, ℕ, ◌+◌, ◌≤◌, Bool, true, false, List, length, refl, sym, ap, ◌∙◌, subst, arith, length-append}
-use Rattle.std.proofs.lemmas.Bool.{false≢true}
 use Rattle.std.specs.Prelude.{if◌then◌else◌, Option, Some, is_some, IsTrue}
 use mathlib.Core.List.{IsPrefix}
-use Rattle.hall_model.specs.Calls.{call_of}
-use Rattle.hall_model.specs.declared.command.Command.{Command}
-use Rattle.hall_model.specs.declared.command.Command.TheVariants as command
 use Rattle.hall_model.specs.declared.command.PastEntry.{PastEntry}
 use Rattle.hall_model.specs.declared.command.Reply.{Reply}
-use Rattle.order_workers.specs.Orders.{is_of_worker}
-use Rattle.script_actors.specs.Actors.{HasNoStock, full_after, is_full}
-
--- a worker commits nothing
-pub worker_no_stock : (w : ℕ) (c : Command) → is_of_worker w c ≡ true → HasNoStock (call_of c)
-worker_no_stock w (command.Take1 x) h = tt
-worker_no_stock w (command.Take2 x) h = tt
-worker_no_stock w (command.Do1 x) h = tt
-worker_no_stock w (command.Do2 x) h = tt
-worker_no_stock w (command.DropOrder x) h = tt
-worker_no_stock w _ h = absurd (false≢true h)
+use Rattle.script_actors.specs.Actors.{full_after, is_full}
 
 either : (P : Type 0) (b : Bool) → (b ≡ true → P) → (b ≡ false → P) → P
 either P true f g = f refl

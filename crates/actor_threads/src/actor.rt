@@ -1,31 +1,38 @@
-ghost use Rattle.std.specs.Prelude.{◌≡◌, true};
+ghost use Rattle.std.specs.Prelude.{◌≡◌, ◌≤◌, [], length, map, true, vec_capacity};
 ghost use Rattle.std.specs.List.{AllByRecursion};
+ghost use Rattle.ledger_steps.specs.Levels.{intervals_of};
+ghost use Rattle.script_actors.specs.Actors.{HasEnough, land_of};
 ghost use Rattle.script_runner.specs.Preparing.{has_part};
-ghost use Rattle.actor_threads.specs.Working.{IsDeedOf, known_to, left_by};
-ghost use Rattle.caller_laws.specs.Doing.{DidAs, DidLines, LeadsTurn, desk_known};
+ghost use Rattle.actor_threads.specs.Working.{AreSeatsOf, IsDeedOf, IsFresh, drawn_told, known_to, left_by};
+ghost use Rattle.caller_laws.specs.Doing.{DidAs, DidAtDesk, DidLines, LeadsTurn, desk_seen};
 ghost use Rattle.order_workers.specs.Orders.{DidWork};
+ghost use Rattle.turn_desks.specs.Stocks.{draws_of, left_in};
 ghost use Rattle.turn_desks.specs.Watching.{IsReaderAt};
+ghost use Rattle.turn_desks.specs.Weaving.{desk_entries, noted};
 ghost use Rattle.turn_lock.specs.Passes.{known};
 
-use enq_base::Items;
+use enq_base::{Items, Num};
 use gauges::GaugePass;
-use hall_model::Who;
+use hall_model::{PastEntry, Who};
 use lock_objects::LockObject;
+use number_stock::StockSeat;
 use order_workers::do_orders;
-use script_actors::{NumberedLine, Said, actor_lines};
+use range_list::Ranges;
+use script_actors::{Drawing, NumberedLine, Said, actor_lines};
 use std::alloc::Global;
 use std::snapshot::Snapshot;
 use std::sync::Wait;
 use std::sync::atomic::{AtomicU64, Ordering};
-use turn_desks::{Gate, Glance, LockName, Serving, TurnDesk};
-use turn_lock::Pass;
+use turn_desks::{Gate, Glance, LockName, Note, Serving, TurnDesk};
+use turn_lock::{History, Pass};
 
 /// One of a run's actors: a session, the administrator, or a worker.
 #[derive(Drop)]
 pub struct Actor<'a, N: LockName, S: Serving, R: Wait, G: Gate> {
     pub who: Who,
     pub desk: TurnDesk<'a, N, S, R, G>,
-    /// What its lines were answered that came to no call. None where memory was wanting for one, and of a worker.
+    /// What its lines were answered whose answer isn't in the history. None where memory was wanting for one, and of a
+    /// worker.
     pub said: Option<Items<Said>>,
     /// Whether a worker ended because nothing was left to do.
     pub rests: bool,
@@ -38,6 +45,8 @@ pub struct Actor<'a, N: LockName, S: Serving, R: Wait, G: Gate> {
 pub struct Deed {
     pub who: Who,
     pub said: Option<Items<Said>>,
+    /// The numbers of stocks that its lines drew.
+    pub drawn: Vec<Drawing>,
     pub rests: bool,
     /// The line of its last call that found the history full.
     pub full_at: Option<u32>,
@@ -53,16 +62,19 @@ impl<'a, N: LockName, S: Serving, R: Wait, G: Gate> Actor<'a, N, S, R, G> {
         alloc: Global,
         lines: &[NumberedLine],
         objects: &[LockObject],
+        ranges: &Ranges,
         running: &AtomicU64,
     )
         requires parts { AllByRecursion (λ l. has_part l.line ≡ true) lines.now }
+        requires intervals { N.intervals ≡ intervals_of ranges.now }
+        requires fresh { IsFresh S.stocks (intervals_of ranges.now) lines.now self.old }
         ensures who { self.new.who ≡ self.old.who }
-        ensures did { DidAs S.past objects.now lines.now self.old.who (left_by self.new) (known_to self.old)
-            (known_to self.new) }
+        ensures did { DidAs S.past (land_of objects.now (intervals_of ranges.now)) lines.now self.old.who
+            (left_by self.new) (known_to self.old) (known_to self.new) }
     {
         match self.who {
             Who::Worker(worker) => self.work_orders(rt, worker, running),
-            Who::Session(_) | Who::Admin => self.work_lines(alloc, lines, objects, running),
+            Who::Session(_) | Who::Admin => self.work_lines(alloc, lines, objects, ranges, running),
         }
     }
 
@@ -78,23 +90,27 @@ impl<'a, N: LockName, S: Serving, R: Wait, G: Gate> Actor<'a, N, S, R, G> {
         alloc: Global,
         lines: &[NumberedLine],
         objects: &[LockObject],
+        ranges: &Ranges,
         running: &AtomicU64,
     )
         requires parts { AllByRecursion (λ l. has_part l.line ≡ true) lines.now }
+        requires intervals { N.intervals ≡ intervals_of ranges.now }
+        requires fresh { IsFresh S.stocks (intervals_of ranges.now) lines.now self.old }
         ensures who { self.new.who ≡ self.old.who }
-        ensures did { DidLines objects.now lines.now self.old.who self.new.said (desk_known (known_to self.old))
-            (desk_known (known_to self.new)) }
+        ensures did { DidAtDesk (land_of objects.now (intervals_of ranges.now)) lines.now self.old.who
+            (left_by self.new) (known_to self.old) (known_to self.new) }
     {
-        self.said = said_by(alloc, &mut self.desk, &self.who, lines, objects);
+        self.said = said_by(alloc, &mut self.desk, &self.who, lines, objects, ranges);
         running.fetch_sub(1, Ordering::SeqCst);
     }
 
-    /// Gives its passes back, and what it has done.
+    /// Gives its passes and seats back, and what it has done.
     pub(crate) fn retire(self) -> Retired<S>
-        ensures pass { result.pass ≡ self.entry.desk.pass }
+        ensures pass { result.pass ≡ self.entry.desk.caller.pass }
         ensures deed { IsDeedOf self.entry result.deed }
         ensures glance { result.deed.glanced.value ≡ result.glance }
         ensures own { IsReaderAt N.board result.glance }
+        ensures seats { AreSeatsOf S.stocks result.deed result.seats.items }
     {
         let Actor {
             who,
@@ -104,16 +120,20 @@ impl<'a, N: LockName, S: Serving, R: Wait, G: Gate> Actor<'a, N, S, R, G> {
             glance,
         } = self;
         let glance = glance.into_pass();
+        let full_at = desk.caller.notes.full_at;
+        let (pass, seats, notes, room) = desk.into_parts();
         let deed = Deed {
             who,
             said,
+            drawn: numbers_of(notes.as_slice(), room),
             rests,
-            full_at: desk.notes.full_at,
+            full_at,
             glanced: Snapshot::of(&glance),
         };
         Retired {
-            pass: desk.into_pass(),
+            pass,
             glance,
+            seats,
             deed,
         }
     }
@@ -124,23 +144,54 @@ impl<'a, N: LockName, S: Serving, R: Wait, G: Gate> Actor<'a, N, S, R, G> {
 pub(crate) struct Retired<S: Serving> {
     pub(crate) pass: Pass<S>,
     pub(crate) glance: GaugePass,
+    pub(crate) seats: Vec<StockSeat>,
     pub(crate) deed: Deed,
 }
 
-/// What the lines of an actor are answered that come to no call, or None where memory is wanting for one.
+/// The numbers that these drawings gave, for which there is room.
+fn numbers_of<S: History<Entry = PastEntry>>(
+    notes: &[Note<S>],
+    mut room: Vec<Drawing>,
+) -> Vec<Drawing>
+    requires empty { room.items ≡ [] }
+    requires room { length notes.now ≤ vec_capacity room }
+    ensures { result.items ≡ drawn_told (map noted notes.now) }
+{
+    for note in notes {
+        if let Some(number) = note.number {
+            room.push_reserved(Drawing {
+                line: note.line,
+                num: Num {
+                    object: note.object,
+                    nr: note.nr,
+                    number,
+                },
+            });
+        }
+    }
+    room
+}
+
+/// What the lines of an actor are answered whose answer isn't in the history, or None where memory is wanting for one.
 fn said_by<'a, N: LockName, S: Serving, R: Wait, G: Gate>(
     alloc: Global,
     desk: &mut TurnDesk<'a, N, S, R, G>,
     who: &Who,
     lines: &[NumberedLine],
     objects: &[LockObject],
+    ranges: &Ranges,
 ) -> Option<Items<Said>>
     requires parts { AllByRecursion (λ l. has_part l.line ≡ true) lines.now }
-    ensures { DidLines objects.now lines.now who.now result
-        (desk_known (record { view = known desk.old.pass; full_at = desk.old.notes.full_at }))
-        (desk_known (record { view = known desk.new.pass; full_at = desk.new.notes.full_at })) }
+    requires intervals { N.intervals ≡ intervals_of ranges.now }
+    requires own { desk.old.caller.who ≡ who.now }
+    requires fresh { desk_entries desk.old.drawn.items (known desk.old.caller.pass) ≡ [] }
+    requires enough { HasEnough (intervals_of ranges.now) who.now lines.now
+        (left_in S.stocks (draws_of desk.old.seats.items)) }
+    ensures { DidLines (land_of objects.now (intervals_of ranges.now)) lines.now who.now result
+        (desk_seen (desk_entries desk.old.drawn.items (known desk.old.caller.pass)) desk.old.caller.notes.full_at)
+        (desk_seen (desk_entries desk.new.drawn.items (known desk.new.caller.pass)) desk.new.caller.notes.full_at) }
 {
-    match actor_lines(alloc, desk, who, lines, objects) {
+    match actor_lines(alloc, desk, who, lines, objects, ranges) {
         Ok(said) => Some(Items::from_vec(said)),
         Err(_) => None,
     }

@@ -7,4 +7,4 @@ mod working;
 
 pub use actor::{Actor, Deed};
 pub use last_desk::LastDesk;
-pub use working::{gather, work_all};
+pub use working::{Leavings, gather, work_all};

@@ -2,8 +2,10 @@ ghost use Rattle.std.specs.Prelude.{◌≡◌, ◌+◌, ◌<◌, ◌≤◌, [], 
 ghost use Rattle.std.specs.List.{AllByRecursion};
 ghost use Rattle.std.specs.List.Sorted.{IsPermutation};
 ghost use mathlib.Core.List.{IsPrefix};
+ghost use Rattle.ledger_steps.specs.Levels.{intervals_of};
+ghost use Rattle.script_actors.specs.Actors.{land_of};
 ghost use Rattle.script_runner.specs.Preparing.{has_part};
-ghost use Rattle.actor_threads.specs.Working.{AreDeeds, HasWorked, entries_in};
+ghost use Rattle.actor_threads.specs.Working.{AllSeats, AreDeeds, HasWorked, IsFresh, entries_in};
 ghost use Rattle.turn_desks.specs.Asking.{table_of};
 ghost use Rattle.turn_desks.specs.Parts.{IsPart};
 ghost use Rattle.turn_desks.specs.Watching.{IsReaderAt};
@@ -13,6 +15,8 @@ ghost use Rattle.turn_lock.specs.Rule.{own_entries};
 use crate::actor::{Actor, Deed};
 use gauges::GaugePass;
 use lock_objects::LockObject;
+use number_stock::StockSeat;
+use range_list::Ranges;
 use script_actors::NumberedLine;
 use std::alloc::Global;
 use std::sync::Wait;
@@ -35,12 +39,17 @@ pub fn work_all<
     actors: &mut [Actor<'a, N, S, R, G>],
     lines: &[NumberedLine],
     objects: &[LockObject],
+    ranges: &Ranges,
     running: &AtomicU64,
 )
     requires some { 0 < length actors.old }
     requires parts { AllByRecursion (λ l. has_part l.line ≡ true) lines.now }
+    requires intervals { N.intervals ≡ intervals_of ranges.now }
+    requires fresh { (i : ℕ) (d : _) → i < length actors.old
+        → IsFresh S.stocks (intervals_of ranges.now) lines.now (slice_index_or actors.old i d) }
     ensures did { (i : ℕ) (d : _) → i < length actors.old
-        → HasWorked S.past objects.now lines.now (slice_index_or actors.old i d) (slice_index_or actors.new i d) }
+        → HasWorked S.past (land_of objects.now (intervals_of ranges.now)) lines.now (slice_index_or actors.old i d)
+        (slice_index_or actors.new i d) }
 {
     let count = actors.len();
     thread::for_each_mut(
@@ -48,43 +57,56 @@ pub fn work_all<
         actors,
         count,
         &|_: usize, actor: &mut Actor<N, S, R, G>|
-            requires { AllByRecursion (λ l. has_part l.line ≡ true) lines.now }
-            ensures { HasWorked S.past objects.entry.now lines.entry.now actor.entry.now actor.exit.now }
-        { actor.work(rt, alloc, lines, objects, running) },
+            requires { AllByRecursion (λ l. has_part l.line ≡ true) lines.now × (N.intervals ≡ intervals_of ranges.now)
+                × IsFresh S.stocks (intervals_of ranges.now) lines.now actor.now }
+            ensures { HasWorked S.past (land_of objects.entry.now (intervals_of ranges.entry.now)) lines.entry.now
+                actor.entry.now actor.exit.now }
+        { actor.work(rt, alloc, lines, objects, ranges, running) },
     );
 }
 
-/// Joins the passes of all actors into one, which then has the parts of all, and keeps what they have done and what
-/// each looked at the gauges with.
+/// What the actors of a run leave, the last one's first: what each has done, what it looked at the gauges with, and its
+/// seats.
+#[derive(Drop)]
+pub struct Leavings {
+    pub deeds: Vec<Deed>,
+    pub glances: Vec<GaugePass>,
+    pub seats: Vec<Vec<StockSeat>>,
+}
+
+/// Joins the passes of all actors into one, which then has the parts of all, and keeps what each leaves.
 pub fn gather<'a, N: LockName, S: Serving, R: Wait, G: Gate>(
     lock: &TurnLock<S>,
     mut pass: Pass<S>,
     mut actors: Vec<Actor<'a, N, S, R, G>>,
-    mut deeds: Vec<Deed>,
-    mut glances: Vec<GaugePass>,
-) -> (Pass<S>, Vec<Deed>, Vec<GaugePass>)
+    mut left: Leavings,
+) -> (Pass<S>, Leavings)
     requires lock { table_of lock.now ≡ N.table }
     requires own { IsPassOf lock.now pass }
-    requires none { (deeds.items ≡ []) × (glances.items ≡ []) }
-    requires room { (length actors.items ≤ vec_capacity deeds) × (length actors.items ≤ vec_capacity glances) }
+    requires none { (left.deeds.items ≡ []) × (left.glances.items ≡ []) × (left.seats.items ≡ []) }
+    requires room { (length actors.items ≤ vec_capacity left.deeds) × (length actors.items ≤ vec_capacity left.glances)
+        × (length actors.items ≤ vec_capacity left.seats) }
     ensures own { IsPassOf lock.now result.0 }
     ensures parts { (known result.0).parts ≡ (known pass).parts + length actors.entry.items }
     ensures entries { IsPermutation (own_entries (known pass) ++ entries_in actors.entry.items)
         (own_entries (known result.0)) }
     // What each of them has seen begins what the pass has.
-    ensures seen { AllByRecursion (λ a. IsPrefix (known a.desk.pass).seen (known result.0).seen) actors.entry.items }
-    // Each one's own calls stand there in their order.
-    ensures stand { AllByRecursion (λ a. ∥ IsPart (own_entries (known a.desk.pass)) (known a.desk.pass).seen ∥₁)
+    ensures seen { AllByRecursion (λ a. IsPrefix (known a.desk.caller.pass).seen (known result.0).seen)
         actors.entry.items }
-    ensures deeds { AreDeeds actors.entry.items result.1.items }
-    ensures glances { map (λ d. d.glanced.value) result.1.items ≡ result.2.items }
-    ensures readers { AllByRecursion (IsReaderAt N.board) result.2.items }
+    // Each one's own calls stand there in their order.
+    ensures stand { AllByRecursion (λ a. ∥ IsPart (own_entries (known a.desk.caller.pass))
+        (known a.desk.caller.pass).seen ∥₁) actors.entry.items }
+    ensures deeds { AreDeeds actors.entry.items result.1.deeds.items }
+    ensures glances { map (λ d. d.glanced.value) result.1.deeds.items ≡ result.1.glances.items }
+    ensures readers { AllByRecursion (IsReaderAt N.board) result.1.glances.items }
+    ensures seats { AllSeats S.stocks result.1.deeds.items (map (λ v. v.items) result.1.seats.items) }
 {
     while let Some(actor) = actors.pop() {
         let retired = actor.retire();
         pass = lock.join(pass, retired.pass);
-        deeds.push_reserved(retired.deed);
-        glances.push_reserved(retired.glance);
+        left.deeds.push_reserved(retired.deed);
+        left.glances.push_reserved(retired.glance);
+        left.seats.push_reserved(retired.seats);
     }
-    (pass, deeds, glances)
+    (pass, left)
 }

@@ -8,16 +8,15 @@ use Rattle.hall_model.specs.History.{is_unrecorded}
 use Rattle.hall_model.specs.declared.command.PastEntry.{PastEntry}
 use Rattle.hall_model.specs.declared.command.Who.{Who}
 use Rattle.hall_model.specs.declared.command.Who.TheVariants as caller
-use Rattle.lock_objects.specs.Objects.{Object}
 use Rattle.order_laws.specs.Behind.{up_after}
 use Rattle.order_workers.specs.Orders.{DidWork, Leads, Made, Stays, Then}
-use Rattle.script_actors.specs.Actors.{desk_call, is_full}
+use Rattle.script_actors.specs.Actors.{Land, is_full}
 use Rattle.script_actors.specs.Doers.{is_same}
-use Rattle.script_actors.specs.declared.actor.Said.{Said}
+use Rattle.script_actors.specs.Drawings.{desk_call}
 use Rattle.script_actors.specs.declared.line.NumberedLine.{NumberedLine}
 use Rattle.turn_desks.proofs.lemmas.Parts.{filter_none}
-use Rattle.caller_laws.specs.Callers.{AreAmong, AreTheirs, entries_by, is_by, view_by}
-use Rattle.caller_laws.specs.Doing.{Did, DidLines, LeadsAlone, Left, Looked, WorkerDid, is_idle_post, nothing_asked}
+use Rattle.caller_laws.specs.Callers.{AreAmong, AreTheirs, entries_by, is_by}
+use Rattle.caller_laws.specs.Doing.{Did, LeadsAlone, Left, LinesDid, Looked, WorkerDid, is_idle_post}
 use Rattle.caller_laws.specs.Seen.{AreSeen, Kept, Others, Unkept}
 use Rattle.caller_laws.proofs.Everywhere.{IsOf, Says, all_append, all_back, all_of_prefix, all_weaker, apart_turned, by_other, by_own, none_of}
 use Rattle.caller_laws.proofs.Loops.{IsMadeBy, leads_full, leads_posts, made_front, made_last, work_more, work_theirs}
@@ -126,30 +125,30 @@ same_entries w past added none =
     ∙ ap (λ es. filter (is_by w) past ++ es) (filter_none (is_by w) added (none_of (is_by w) added none))
     ∙ append-nil (filter (is_by w) past))
 
-lines_stay : (objects : List Object) (lines : List NumberedLine) (who : Who) (said : Option (List Said)) (full_at : Option ℕ) (past added : List PastEntry)
-    → AllByRecursion (λ (e : PastEntry). is_by who e ≡ false) added → DidLines objects lines who said nothing_asked (view_by who past full_at)
-    → DidLines objects lines who said nothing_asked (view_by who (past ++ added) full_at)
-lines_stay objects lines who said full_at past added none h =
-    subst (DidLines objects lines who said nothing_asked) (λ i. record { calls = map desk_call (same_entries who past added none i); full_at = full_at }) h
+lines_stay : (land : Land) (lines : List NumberedLine) (who : Who) (left : Left) (full_at : Option ℕ) (past added : List PastEntry)
+    → AllByRecursion (λ (e : PastEntry). is_by who e ≡ false) added → LinesDid land lines past who left full_at
+    → LinesDid land lines (past ++ added) who left full_at
+lines_stay land lines who left full_at past added none h =
+    record { entries = h.entries; did = h.did; calls = h.calls ∙ ap (map desk_call) (same_entries who past added none); drawn = h.drawn }
 
-did_stays : (objects : List Object) (lines : List NumberedLine) (who : Who) (left : Left) (full_at : Option ℕ) (past added : List PastEntry)
-    → AllByRecursion (λ (e : PastEntry). is_by who e ≡ false) added → Did objects lines past who left full_at
-    → Did objects lines (past ++ added) who left full_at
-did_stays objects lines (caller.Worker x) left full_at past added none h =
+did_stays : (land : Land) (lines : List NumberedLine) (who : Who) (left : Left) (full_at : Option ℕ) (past added : List PastEntry)
+    → AllByRecursion (λ (e : PastEntry). is_by who e ≡ false) added → Did land lines past who left full_at
+    → Did land lines (past ++ added) who left full_at
+did_stays land lines (caller.Worker x) left full_at past added none h =
     record { calls = h.calls; seen = seen_others (caller.Worker x) past added h.calls none h.seen; ended = h.ended; full = h.full; posts = h.posts }
-did_stays objects lines (caller.Session s) left full_at past added none h =
-    lines_stay objects lines (caller.Session s) left.said full_at past added none h
-did_stays objects lines caller.Admin left full_at past added none h = lines_stay objects lines caller.Admin left.said full_at past added none h
+did_stays land lines (caller.Session s) left full_at past added none h =
+    lines_stay land lines (caller.Session s) left full_at past added none h
+did_stays land lines caller.Admin left full_at past added none h = lines_stay land lines caller.Admin left full_at past added none h
 
-pub others_stay : (objects : List Object) (lines : List NumberedLine) (w : ℕ) (rests : Bool) (k l : Looked) (who : Who) (left : Left) (full_at : Option ℕ)
-    → AreTheirs l.past → DidWork LeadsAlone w rests k l → is_same (caller.Worker w) who ≡ false → Did objects lines k.past who left full_at
-    → Did objects lines l.past who left full_at
-others_stay objects lines w rests k l who left full_at theirs did apart h =
+pub others_stay : (land : Land) (lines : List NumberedLine) (w : ℕ) (rests : Bool) (k l : Looked) (who : Who) (left : Left) (full_at : Option ℕ)
+    → AreTheirs l.past → DidWork LeadsAlone w rests k l → is_same (caller.Worker w) who ≡ false → Did land lines k.past who left full_at
+    → Did land lines l.past who left full_at
+others_stay land lines w rests k l who left full_at theirs did apart h =
     let more = grows w rests k l theirs did in
     let none : AllByRecursion (λ (e : PastEntry). is_by who e ≡ false) more.added =
     all_weaker (IsOf (caller.Worker w)) (λ e. is_by who e ≡ false) (by_other who (caller.Worker w) (apart_turned (caller.Worker w) who apart))
     more.added more.own in
-    subst (λ es. Did objects lines es who left full_at) (sym more.grew) (did_stays objects lines who left full_at k.past more.added none h)
+    subst (λ es. Did land lines es who left full_at) (sym more.grew) (did_stays land lines who left full_at k.past more.added none h)
 
 pub among_still : (callers : List Who) (w : ℕ) (rests : Bool) (k l : Looked) → AreTheirs l.past → DidWork LeadsAlone w rests k l
     → IsTrue (list_any (λ (x : Who). is_same x (caller.Worker w)) callers) → AreAmong callers k.past → AreAmong callers l.past

@@ -12,7 +12,7 @@ use Rattle.script_actors.specs.Doers.{is_same}
 use Rattle.turn_desks.specs.Parts.{IsPart}
 use Rattle.turn_desks.proofs.lemmas.Parts.{AreOf, NoneOf}
 use Rattle.caller_laws.specs.Callers.{is_by}
-use Rattle.caller_laws.proofs.Whose.{same_caller}
+use Rattle.caller_laws.proofs.Meanings.{same_caller}
 
 module _ {X : Type 0} (P : X → Type 0) where
   pub all_append : (xs ys : List X) → AllByRecursion P xs → AllByRecursion P ys → AllByRecursion P (xs ++ ys)

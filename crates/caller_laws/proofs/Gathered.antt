@@ -1,24 +1,23 @@
 -- What each thread made of a history that is what all of them made.
-use Rattle.std.proofs.Common.{◌≡◌, Bool, true, false, List, [], ◌∷◌, ◌++◌, map, refl, sym, ap, subst, append_assoc}
+use Rattle.std.proofs.Common.{◌≡◌, Bool, true, false, List, [], ◌∷◌, ◌++◌, map, refl, sym, ap, ◌∙◌, subst, append_assoc}
 use Rattle.std.proofs.lemmas.List.Elements.{All-from_recursion, recursion_from_All}
 use Rattle.std.proofs.lemmas.List.Sorted.{All-permutation, IsPermutation-sym}
-use Rattle.std.specs.Prelude.{◌||◌, IsTrue, Option, None}
+use Rattle.std.specs.Prelude.{◌||◌, IsTrue, None}
 use Rattle.std.specs.List.{AllByRecursion, list_any}
 use Rattle.std.specs.List.Sorted.{IsPermutation}
 use mathlib.Core.List.{IsPrefix}
 use Rattle.hall_model.specs.declared.command.PastEntry.{PastEntry}
 use Rattle.hall_model.specs.declared.command.Who.{Who}
 use Rattle.hall_model.specs.declared.command.Who.TheVariants as caller
-use Rattle.lock_objects.specs.Objects.{Object}
-use Rattle.script_actors.specs.Actors.{desk_call}
+use Rattle.script_actors.specs.Actors.{Land}
 use Rattle.script_actors.specs.Doers.{is_same}
-use Rattle.script_actors.specs.declared.actor.Said.{Said}
+use Rattle.script_actors.specs.Drawings.{desk_call}
 use Rattle.script_actors.specs.declared.line.NumberedLine.{NumberedLine}
 use Rattle.turn_desks.specs.Parts.{IsPart}
 use Rattle.turn_desks.proofs.lemmas.Parts.{own_are_filter, part_of_longer}
 use Rattle.turn_lock.specs.Rule.{own_entries}
-use Rattle.caller_laws.specs.Callers.{AreAmong, AreDistinct, AreTheirs, entries_by, is_by, view_by}
-use Rattle.caller_laws.specs.Doing.{Did, DidAs, DidLines, IsThread, Known, LeadsTurn, Left, Thread, desk_known, entries_of, nothing_asked}
+use Rattle.caller_laws.specs.Callers.{AreAmong, AreDistinct, AreTheirs, entries_by, is_by}
+use Rattle.caller_laws.specs.Doing.{Did, DidAs, DidAtDesk, DidLines, IsThread, Known, LeadsTurn, Left, LinesDid, Thread, desk_known, entries_of}
 use Rattle.caller_laws.proofs.Everywhere.{IsOf, all_append, all_weaker, apart_turned, are_of, by_other, by_own, none_of}
 use Rattle.caller_laws.proofs.Loops.{leads_full, leads_posts}
 use Rattle.caller_laws.proofs.Marks.{Marked, marked_longer, marked_seen}
@@ -76,17 +75,19 @@ none_before (t ∷ ts) = (tt, none_before ts)
 
 -- ---- what each did
 
-module _ {S : Type 0} (past : S → List PastEntry) (objects : List Object) (lines : List NumberedLine) (log : List PastEntry) where
-  lines_did : (w : Who) (said : Option (List Said)) (k l : Known) → DidLines objects lines w said (desk_known k) (desk_known l) → k.view.own ≡ []
-      → k.full_at ≡ None → entries_by w log ≡ own_entries l.view → DidLines objects lines w said nothing_asked (view_by w log l.full_at)
-  lines_did w said k l did none full same =
-      let end : desk_known l ≡ view_by w log l.full_at = λ i. record { calls = map desk_call (sym same i); full_at = l.full_at } in
-      subst (DidLines objects lines w said nothing_asked) end
-      (subst (λ v. DidLines objects lines w said v (desk_known l)) (fresh_desk past k none full) did)
+module _ {S : Type 0} (past : S → List PastEntry) (land : Land) (lines : List NumberedLine) (log : List PastEntry) where
+  lines_did : (w : Who) (left : Left) (k l : Known) → DidAtDesk land lines w left k l → k.full_at ≡ None → entries_by w log ≡ own_entries l.view
+      → LinesDid land lines log w left l.full_at
+  lines_did w left k l h full same = record {
+    entries = l.entries;
+    did = subst (λ v. DidLines land lines w left.said v (desk_known l)) (fresh_desk past k h.fresh full) h.did;
+    calls = h.calls ∙ ap (map desk_call) (sym same);
+    drawn = h.drawn;
+  }
 
-  thread_did : (who : Who) (left : Left) (k l : Known) → DidAs past objects lines who left k l → k.view.own ≡ [] → k.full_at ≡ None
+  thread_did : (who : Who) (left : Left) (k l : Known) → DidAs past land lines who left k l → k.view.own ≡ [] → k.full_at ≡ None
       → IsPrefix l.view.seen log → AllByRecursion (IsOf who) (own_entries l.view) → entries_by who log ≡ own_entries l.view
-      → Did objects lines log who left l.full_at
+      → Did land lines log who left l.full_at
   thread_did (caller.Worker w) left k l did none full begins own same = record {
     calls = did.0;
     seen = marked_seen (is_by (caller.Worker w)) log (own_entries l.view) did.0
@@ -97,30 +98,30 @@ module _ {S : Type 0} (past : S → List PastEntry) (objects : List Object) (lin
     full = λ is. (leads_full (λ (x : Known). x.full_at) (LeadsTurn past) (λ x m y h. h.full_at) k l did.0 did.1 is).0;
     posts = leads_posts (LeadsTurn past) (λ x m y h. h.asked.posts) k l did.0 did.1;
   }
-  thread_did (caller.Session s) left k l did none full begins own same = lines_did (caller.Session s) left.said k l did none full same
-  thread_did caller.Admin left k l did none full begins own same = lines_did caller.Admin left.said k l did none full same
+  thread_did (caller.Session s) left k l did none full begins own same = lines_did (caller.Session s) left k l did full same
+  thread_did caller.Admin left k l did none full begins own same = lines_did caller.Admin left k l did full same
 
-  owners : LinesAreOwn → AreTheirs log → (ts : List Thread) → AllByRecursion (IsThread past objects lines log) ts → AllByRecursion (IsOwner log) ts
+  owners : LinesAreOwn → AreTheirs log → (ts : List Thread) → AllByRecursion (IsThread past land lines log) ts → AllByRecursion (IsOwner log) ts
   owners whose theirs =
-      all_weaker (IsThread past objects lines log) (IsOwner log)
+      all_weaker (IsThread past land lines log) (IsOwner log)
       (λ t h. record {
         part = part_of_longer (own_entries t.now.view) t.now.view.seen log h.begins h.part;
-        own = thread_entries past whose objects lines log t theirs h;
+        own = thread_entries past whose land lines log t theirs h;
       })
 
-  all_did : (ts : List Thread) → AllByRecursion (IsThread past objects lines log) ts → AllByRecursion (IsOwner log) ts → AllByRecursion (IsAll log) ts
-      → AllByRecursion (λ (t : Thread). Did objects lines log t.who t.left t.now.full_at) ts
+  all_did : (ts : List Thread) → AllByRecursion (IsThread past land lines log) ts → AllByRecursion (IsOwner log) ts → AllByRecursion (IsAll log) ts
+      → AllByRecursion (λ (t : Thread). Did land lines log t.who t.left t.now.full_at) ts
   all_did [] h own all = tt
   all_did (t ∷ ts) h own all =
       (thread_did t.who t.left t.began t.now h.0.did h.0.fresh h.0.none_full h.0.begins own.0.own all.0, all_did ts h.1 own.1 all.1)
 
-pub each_did : LinesAreOwn → {S : Type 0} (past : S → List PastEntry) (objects : List Object) (lines : List NumberedLine)
+pub each_did : LinesAreOwn → {S : Type 0} (past : S → List PastEntry) (land : Land) (lines : List NumberedLine)
     (log : List PastEntry) (threads : List Thread) → AreTheirs log → AreDistinct (map (λ (t : Thread). t.who) threads)
-    → IsPermutation log (entries_of threads) → AllByRecursion (IsThread past objects lines log) threads
-    → AllByRecursion (λ (t : Thread). Did objects lines log t.who t.left t.now.full_at) threads
-each_did whose past objects lines log threads theirs distinct same h =
-    let own = owners past objects lines log whose theirs threads h in
-    all_did past objects lines log threads h own (all_own log [] threads same distinct own (none_before threads))
+    → IsPermutation log (entries_of threads) → AllByRecursion (IsThread past land lines log) threads
+    → AllByRecursion (λ (t : Thread). Did land lines log t.who t.left t.now.full_at) threads
+each_did whose past land lines log threads theirs distinct same h =
+    let own = owners past land lines log whose theirs threads h in
+    all_did past land lines log threads h own (all_own log [] threads same distinct own (none_before threads))
 
 -- ---- and nobody else
 
@@ -142,12 +143,12 @@ among_threads log (t ∷ ts) h =
     (all_weaker (IsAmong later) (IsAmong (t.who ∷ later)) (λ e is. or_later (is_by t.who e) (list_any (λ (w : Who). is_by w e) later) is)
     (entries_of ts) (among_threads log ts h.1))
 
-pub all_among : LinesAreOwn → {S : Type 0} (past : S → List PastEntry) (objects : List Object) (lines : List NumberedLine)
+pub all_among : LinesAreOwn → {S : Type 0} (past : S → List PastEntry) (land : Land) (lines : List NumberedLine)
     (log : List PastEntry) (threads : List Thread) → AreTheirs log
-    → IsPermutation log (entries_of threads) → AllByRecursion (IsThread past objects lines log) threads
+    → IsPermutation log (entries_of threads) → AllByRecursion (IsThread past land lines log) threads
     → AreAmong (map (λ (t : Thread). t.who) threads) log
-all_among whose past objects lines log threads theirs same h =
+all_among whose past land lines log threads theirs same h =
     let P = IsAmong (map (λ (t : Thread). t.who) threads) in
-    let made = among_threads log threads (owners past objects lines log whose theirs threads h) in
+    let made = among_threads log threads (owners past land lines log whose theirs threads h) in
     recursion_from_All P log
     (All-permutation P (entries_of threads) log (IsPermutation-sym log (entries_of threads) same) (All-from_recursion P (entries_of threads) made))

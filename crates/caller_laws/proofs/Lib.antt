@@ -1,3 +1,4 @@
+pub mod Meanings
 pub mod Whose
 pub mod Distinct
 pub mod Everywhere
@@ -6,6 +7,7 @@ pub mod Marks
 pub mod OwnCalls
 pub mod Gathered
 pub mod Alone
+pub mod Drawn
 pub mod Splits
 pub mod LastCalls
 pub mod Histories

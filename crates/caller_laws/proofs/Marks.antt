@@ -11,7 +11,7 @@ use Rattle.hall_model.specs.declared.command.PastEntry.{PastEntry}
 use Rattle.hall_model.specs.declared.command.Reply.{Reply}
 use Rattle.order_laws.specs.Behind.{up_after}
 use Rattle.order_workers.specs.Orders.{Made}
-use Rattle.script_actors.specs.Actors.{DeskCall, desk_call, with_call}
+use Rattle.script_actors.specs.Drawings.{DeskCall, desk_call, with_call}
 use Rattle.caller_laws.specs.Seen.{AreSeen, IsEntryOf, Kept, Nothing, Others, Unkept}
 
 pub record Mark : Type 0 where

@@ -8,23 +8,23 @@ use Rattle.hall_model.specs.History.{is_unrecorded}
 use Rattle.hall_model.specs.declared.command.PastEntry.{PastEntry}
 use Rattle.hall_model.specs.declared.command.Who.{Who}
 use Rattle.hall_model.specs.declared.command.Who.TheVariants as caller
-use Rattle.lock_objects.specs.Objects.{Object}
 use Rattle.order_workers.specs.Orders.{Leads, Made, Stays, Then}
-use Rattle.script_actors.specs.Actors.{DeskCall, DeskView, desk_call, with_call}
+use Rattle.script_actors.specs.Actors.{DeskView, Land}
+use Rattle.script_actors.specs.Drawings.{DeskCall, calls_in, desk_call, with_call}
 use Rattle.script_actors.specs.declared.actor.Said.{Said}
 use Rattle.script_actors.specs.declared.line.NumberedLine.{NumberedLine}
 use Rattle.turn_lock.specs.Rule.{own_entries}
 use Rattle.turn_lock.specs.declared.view.View.{View}
 use Rattle.caller_laws.specs.Callers.{AreTheirs}
-use Rattle.caller_laws.specs.Doing.{DidAs, DidLines, IsThread, Known, LeadsTurn, Left, Thread, desk_known, nothing_asked}
+use Rattle.caller_laws.specs.Doing.{DidAs, DidAtDesk, DidLines, IsThread, Known, LeadsTurn, Left, Thread, desk_known, desk_seen, nothing_asked}
 use Rattle.caller_laws.proofs.Everywhere.{IsOf, Says, all_append, all_of_part, all_of_prefix}
 use Rattle.caller_laws.proofs.Loops.{IsMadeBy, made_front, made_last, work_theirs}
 use Rattle.caller_laws.proofs.Marks.{IsOwnTurn, Marked, marked_first, marked_more}
 
 -- the calls of lines are the actor's
 abbrev pub LinesAreOwn : Type 0
-LinesAreOwn = (objects : List Object) (lines : List NumberedLine) (w : Who) (said : Option (List Said)) (view : DeskView)
-    → DidLines objects lines w said nothing_asked view → AllByRecursion (λ (c : DeskCall). who_of c.command ≡ w) view.calls
+LinesAreOwn = (land : Land) (lines : List NumberedLine) (w : Who) (said : Option (List Said)) (view : DeskView)
+    → DidLines land lines w said nothing_asked view → AllByRecursion (λ (c : DeskCall). who_of c.command ≡ w) (calls_in view.entries)
 
 none_yet : (v : View PastEntry) → v.own ≡ [] → own_entries v ≡ []
 none_yet v none = ap (λ l. own_entries (record v { own = l })) none
@@ -81,32 +81,30 @@ module _ {S : Type 0} (past : S → List PastEntry) where
 
   -- ---- of any thread
 
-  pub fresh_desk : (k : Known) → k.view.own ≡ [] → k.full_at ≡ None → desk_known k ≡ nothing_asked
-  fresh_desk k none full = λ i. record { calls = map desk_call (none_yet k.view none i); full_at = full i }
+  pub fresh_desk : (k : Known) → k.entries ≡ [] → k.full_at ≡ None → desk_known k ≡ nothing_asked
+  fresh_desk k none full = λ i. desk_seen (none i) (full i)
 
-  lines_theirs : LinesAreOwn → (objects : List Object) (lines : List NumberedLine) (w : Who) (said : Option (List Said)) (k l : Known)
-      → DidLines objects lines w said (desk_known k) (desk_known l) → k.view.own ≡ [] → k.full_at ≡ None
-      → AllByRecursion (IsCallOf w) (map desk_call (own_entries l.view))
-  lines_theirs whose objects lines w said k l did none full =
-      whose objects lines w said (desk_known l) (subst (λ v. DidLines objects lines w said v (desk_known l)) (fresh_desk k none full) did)
+  lines_theirs : LinesAreOwn → (land : Land) (lines : List NumberedLine) (w : Who) (left : Left) (k l : Known) → DidAtDesk land lines w left k l
+      → k.full_at ≡ None → AllByRecursion (IsCallOf w) (map desk_call (own_entries l.view))
+  lines_theirs whose land lines w left k l h full =
+      subst (AllByRecursion (IsCallOf w)) h.calls
+      (whose land lines w left.said (desk_known l)
+      (subst (λ v. DidLines land lines w left.said v (desk_known l)) (fresh_desk k h.fresh full) h.did))
 
-  thread_calls : LinesAreOwn → (objects : List Object) (lines : List NumberedLine) (who : Who) (left : Left) (k l : Known)
-      → DidAs past objects lines who left k l → k.view.own ≡ [] → k.full_at ≡ None → AllByRecursion (IsCallOf who) (map desk_call (own_entries l.view))
-  thread_calls whose objects lines (caller.Worker w) left k l did none full =
-      leads_theirs w k l did.0 did.1 (work_theirs w left.rests did.0 did.2) none
-  thread_calls whose objects lines (caller.Session s) left k l did none full =
-      lines_theirs whose objects lines (caller.Session s) left.said k l did none full
-  thread_calls whose objects lines caller.Admin left k l did none full =
-      lines_theirs whose objects lines caller.Admin left.said k l did none full
+  thread_calls : LinesAreOwn → (land : Land) (lines : List NumberedLine) (who : Who) (left : Left) (k l : Known)
+      → DidAs past land lines who left k l → k.view.own ≡ [] → k.full_at ≡ None → AllByRecursion (IsCallOf who) (map desk_call (own_entries l.view))
+  thread_calls whose land lines (caller.Worker w) left k l did none full = leads_theirs w k l did.0 did.1 (work_theirs w left.rests did.0 did.2) none
+  thread_calls whose land lines (caller.Session s) left k l did none full = lines_theirs whose land lines (caller.Session s) left k l did full
+  thread_calls whose land lines caller.Admin left k l did none full = lines_theirs whose land lines caller.Admin left k l did full
 
   entries_theirs : (w : Who) (es : List PastEntry) → AreTheirs es → AllByRecursion (IsCallOf w) (map desk_call es) → AllByRecursion (IsOf w) es
   entries_theirs w [] theirs all = tt
   entries_theirs w (e ∷ es) theirs all = (theirs.0 ∙ all.0, entries_theirs w es theirs.1 all.1)
 
   -- each of its entries in the history is its own
-  pub thread_entries : LinesAreOwn → (objects : List Object) (lines : List NumberedLine) (log : List PastEntry) (t : Thread) → AreTheirs log
-      → IsThread past objects lines log t → AllByRecursion (IsOf t.who) (own_entries t.now.view)
-  thread_entries whose objects lines log t theirs h =
+  pub thread_entries : LinesAreOwn → (land : Land) (lines : List NumberedLine) (log : List PastEntry) (t : Thread) → AreTheirs log
+      → IsThread past land lines log t → AllByRecursion (IsOf t.who) (own_entries t.now.view)
+  thread_entries whose land lines log t theirs h =
       entries_theirs t.who (own_entries t.now.view)
       (all_of_part Says (own_entries t.now.view) t.now.view.seen h.part (all_of_prefix Says t.now.view.seen log h.begins theirs))
-      (thread_calls whose objects lines t.who t.left t.began t.now h.did h.fresh h.none_full)
+      (thread_calls whose land lines t.who t.left t.began t.now h.did h.fresh h.none_full)

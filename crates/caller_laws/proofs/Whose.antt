@@ -1,199 +1,188 @@
--- Whose calls the lines of an actor come to.
-use Rattle.std.proofs.Common.{◌≡◌, ℕ, Bool, true, false, List, [], ◌∷◌, ◌++◌, cond, refl, sym, ap, subst, true≢false}
-use Rattle.std.specs.Prelude.{Option, Some, None, Result, Ok, Err, is_some, if◌then◌else◌}
+-- What is so of each call that the lines of an actor come to, and whose calls they are.
+use Rattle.std.proofs.Common.{◌≡◌, ℕ, Bool, true, false, List, [], ◌∷◌, ◌++◌, cond, refl, sym, ap, ◌∙◌, subst, append-nil, append_assoc}
+use Rattle.std.specs.Prelude.{IfSome, Option, Some, None, nat_le, if◌then◌else◌}
 use Rattle.std.specs.List.{AllByRecursion}
-use Rattle.std.proofs.lemmas.Bool.{eqb-true}
-use Rattle.std.proofs.lemmas.Slice.Eq.{bytes_eq-Decides}
 use Rattle.caller_laws.specs.Doing.{DidLines, nothing_asked}
-use Rattle.dialogue_session.specs.Filling.{filled}
-use Rattle.dialogue_session.specs.Private.{Private}
-use Rattle.dialogue_session.specs.declared.variables.Variable.{Variable}
-use Rattle.enq_base.specs.declared.owner.Scope.{Scope}
-use Rattle.enq_base.specs.declared.refusal.Refusal.{Refusal}
+use Rattle.caller_laws.specs.Numbers.{IsNoBuffered}
+use Rattle.caller_laws.proofs.Meanings.{Holds, IsCallOf, holds_all, holds_more, line_is_of}
 use Rattle.enq_base.specs.declared.refusal.Refusal.TheVariants as refusal
-use Rattle.enq_base.specs.declared.unit.Deed.{Deed}
-use Rattle.enq_base.specs.declared.unit.Deed.TheVariants as deed
-use Rattle.enq_base.specs.declared.unit.Effect.{Effect}
-use Rattle.hall_model.specs.Calls.{who_of}
 use Rattle.hall_model.specs.History.{is_unrecorded}
+use Rattle.hall_model.specs.declared.command.Command.{Command}
 use Rattle.hall_model.specs.declared.command.Command.TheVariants as command
 use Rattle.hall_model.specs.declared.command.Reply.{Reply}
 use Rattle.hall_model.specs.declared.command.Who.{Who}
 use Rattle.hall_model.specs.declared.command.Who.TheVariants as who
-use Rattle.lock_entry.specs.declared.entry.Asked.{Asked}
-use Rattle.lock_entry.specs.declared.entry.Request.{Request}
-use Rattle.lock_objects.specs.Objects.{Object}
-use Rattle.mode_rules.specs.declared.Mode.{Mode}
-use Rattle.mode_rules.specs.declared.Mode.TheVariants as mode
-use Rattle.script_actors.specs.Actors.{AddsPart, Deeds, DeskCall, DeskView, DoesLines, acts, deeds, does, lines_of_actor, no_deeds, own_meaning}
-use Rattle.script_actors.specs.Doers.{is_done_by, is_same}
+use Rattle.number_ranges.specs.Intervals.{is_buffered}
+use Rattle.number_ranges.specs.declared.interval.Interval.{Interval}
+use Rattle.script_actors.specs.Actors.{AddsPart, Deeds, DeskView, DoesLine, DoesLines, Given, IsGiven, IsGivenFor, Land, acts, asks, deeds, drawing, lines_of_actor, no_deeds, own_meaning, session_of}
+use Rattle.script_actors.specs.Drawings.{Asking, Called, Declined, DeskCall, DeskEntry, Draws, Drew, IsDrawing, Makes, Ready, Refused, Reserved, Unkept, asking, calls_in, calls_of, drawing_at, interval_at, uncommitted, with_called}
+use Rattle.script_actors.specs.Doers.{is_done_by}
 use Rattle.script_actors.specs.declared.actor.Said.{Said}
 use Rattle.script_actors.specs.declared.line.NumberedLine.{NumberedLine}
-use Rattle.script_lang.specs.declared.script_line.RawValue.{RawValue}
-use Rattle.script_lang.specs.declared.script_line.ScriptLine.{ScriptLine}
-use Rattle.script_lang.specs.declared.script_line.ScriptLine.TheVariants as line
-use Rattle.script_runner.specs.Lines.{Silent, Shows, Calls, Declines, Changes, Meaning, and_next, asking, collected, collecting, effect_of, key_in, key_with, meaning, number_in, of_session, reading, registered, registering, requesting, text_in, then_deed, unless_refused, with_asked, with_requested}
-use Rattle.script_runner.specs.Sides.{side_of, variables_of}
-use Rattle.script_runner.specs.World.{Setting, setting}
+use Rattle.script_runner.specs.Lines.{Silent, Shows, Calls, Declines, Changes, Meaning}
+use Rattle.script_runner.specs.World.{setting}
 
--- ---- one line
+-- ---- an actor's own lines
 
-pub same_caller : (a b : Who) → is_same a b ≡ true → a ≡ b
-same_caller (who.Session a) (who.Session b) h = ap who.Session ((bytes_eq-Decides a b).0 h)
-same_caller (who.Worker a) (who.Worker b) h = ap who.Worker (eqb-true a b h)
-same_caller who.Admin who.Admin h = refl
-same_caller a b h = absurd (true≢false (sym h))
-
--- what a line means is a call of this caller, or none
-abbrev IsOf : Who → Meaning → Type 0
-IsOf w (Calls c) = who_of c ≡ w
-IsOf w Silent = Unit {0}
-IsOf w (Shows monitor) = Unit {0}
-IsOf w (Declines r) = Unit {0}
-IsOf w (Changes sides) = Unit {0}
-
-of_one : (w : Who) (sides : List Private) (s : List ℕ) (m : Meaning) → IsOf w m → IsOf w (of_session sides s m)
-of_one w sides s m h = elim (is_some (side_of sides s)) as (λ b. IsOf w (if b then m else Declines refusal.UnknownSession)) [ true ↦ h | false ↦ tt ]
-
-of_result : {X : Type 0} (w : Who) (r : Result X Refusal) (next : X → Meaning) → ((x : X) → IsOf w (next x)) → IsOf w (unless_refused r next)
-of_result w (Ok x) next h = h x
-of_result w (Err r) next h = tt
-
-of_change : (w : Who) (r : Result (List Private) Refusal) → IsOf w (unless_refused r Changes)
-of_change w r = of_result w r Changes (λ sides. tt)
-
-of_requested : (x : Setting) (w : Who) (s object : List ℕ) (m : Mode) (scope : Scope) (values : List RawValue) (next : List Request → Meaning)
-    → ((rs : List Request) → IsOf w (next rs)) → IsOf w (with_requested x s object m scope values next)
-of_requested x w s object m scope values next h =
-    let made = requesting (variables_of x.sides s) x.objects object m scope values in
-    of_one w x.sides s (unless_refused made next) (of_result w made next h)
-
-of_asked : (x : Setting) (w : Who) (s object : List ℕ) (m : Mode) (values : List RawValue) (next : List Asked → Meaning)
-    → ((asked : List Asked) → IsOf w (next asked)) → IsOf w (with_asked x s object m values next)
-of_asked x w s object m values next h =
-    let made = asking (variables_of x.sides s) x.objects object m values in
-    of_one w x.sides s (unless_refused made next) (of_result w made next h)
-
--- the effect of a line, with what it does
-abbrev effect_doing : List Variable → (List ℕ → Result Deed Refusal) → List ℕ → List ℕ → List ℕ → Result Effect Refusal
-effect_doing variables doing table key text =
-    and_next (filled variables key) (λ k. and_next (filled variables text) (λ t. effect_of table (key_in k) (doing t)))
-
-of_effect : (x : Setting) (w : Who) (s : List ℕ) (part : ℕ) (doing : List ℕ → Result Deed Refusal) (table key text : List ℕ)
-    → IsOf w (of_session x.sides s (unless_refused (effect_doing (variables_of x.sides s) doing table key text) (registering x.sides s part)))
-of_effect x w s part doing table key text =
-    let made = effect_doing (variables_of x.sides s) doing table key text in
-    of_one w x.sides s (unless_refused made (registering x.sides s part))
-    (of_result w made (registering x.sides s part) (λ e. of_change w (registered x.sides s part e)))
-
-of_reading : (x : Setting) (w : Who) (s table key : List ℕ) → who.Session s ≡ w → IsOf w (reading x s table key)
-of_reading x w s table key own =
-    let made = key_with (variables_of x.sides s) key in
-    let next : List ℕ → Meaning = λ k. Calls (command.Read s table k) in
-    of_one w x.sides s (unless_refused made next) (of_result w made next (λ k. own))
-
--- a line that a caller does comes to no other's call
-pub line_is_of : (x : Setting) (w : Who) (l : ScriptLine) → is_done_by w l ≡ true → IsOf w (meaning x l)
-line_is_of x w line.Blank h = tt
-line_is_of x w line.Sm12 h = tt
-line_is_of x w line.Sm13 h = tt
-line_is_of x w line.Snro h = tt
-line_is_of x w line.Audit h = tt
-line_is_of x w (line.Logon s user) h = sym (same_caller w (who.Session s) h)
-line_is_of x w (line.Logoff s) h = of_one w x.sides s _ (sym (same_caller w (who.Session s) h))
-line_is_of x w (line.DeqAll s) h = of_one w x.sides s _ (sym (same_caller w (who.Session s) h))
-line_is_of x w (line.Flush s) h = of_one w x.sides s _ (sym (same_caller w (who.Session s) h))
-line_is_of x w (line.Reset s) h = of_one w x.sides s _ tt
-line_is_of x w (line.Rollback s) h = of_one w x.sides s _ (sym (same_caller w (who.Session s) h))
-line_is_of x w (line.Commit s) h = of_one w x.sides s _ (sym (same_caller w (who.Session s) h))
-line_is_of x w (line.Enq s object m scope values) h =
-    of_requested x w s object m scope values (λ rs. Calls (command.Ask s rs)) (λ rs. sym (same_caller w (who.Session s) h))
-line_is_of x w (line.Deq s object m scope values) h =
-    of_requested x w s object m scope values (λ rs. Calls (command.Free s rs)) (λ rs. sym (same_caller w (who.Session s) h))
-line_is_of x w (line.Collect s object m scope values) h =
-    of_requested x w s object m scope values (collecting x.sides s) (λ rs. of_change w (collected x.sides s rs))
-line_is_of x w (line.Convert s object values) h =
-    of_asked x w s object mode.O values (λ asked. Calls (command.Convert s asked)) (λ asked. sym (same_caller w (who.Session s) h))
-line_is_of x w (line.Num s object nr variable) h = of_one w x.sides s _ (sym (same_caller w (who.Session s) h))
-line_is_of x w (line.Read s table key variable) h = of_reading x w s table key (sym (same_caller w (who.Session s) h))
-line_is_of x w (line.Put s part table key text) h = of_effect x w s part (λ t. then_deed deed.Put (text_in t)) table key text
-line_is_of x w (line.Ins s part table key text) h = of_effect x w s part (λ t. then_deed deed.Ins (text_in t)) table key text
-line_is_of x w (line.Del s part table key) h = of_effect x w s part (λ t. Ok deed.Del) table key []
-line_is_of x w (line.Add s part table key number) h = of_effect x w s part (λ t. then_deed deed.Add (number_in t)) table key number
-line_is_of x w (line.Take1 worker) h = absurd (true≢false (sym h))
-line_is_of x w (line.Do1 worker) h = absurd (true≢false (sym h))
-line_is_of x w (line.Take2 worker) h = absurd (true≢false (sym h))
-line_is_of x w (line.Do2 worker) h = absurd (true≢false (sym h))
-line_is_of x w (line.DropOrder worker) h = absurd (true≢false (sym h))
-line_is_of x w line.Kill h = sym (same_caller w who.Admin h)
-line_is_of x w line.FailOver h = sym (same_caller w who.Admin h)
-line_is_of x w line.Restart h = sym (same_caller w who.Admin h)
-line_is_of x w line.Attach h = sym (same_caller w who.Admin h)
-line_is_of x w (line.Cancel unit) h = sym (same_caller w who.Admin h)
-line_is_of x w (line.Resubmit unit) h = sym (same_caller w who.Admin h)
-
--- ---- calls
-
--- each call is this caller's
-abbrev AreOf : Who → List DeskCall → Type 0
-AreOf w calls = AllByRecursion (λ (c : DeskCall). who_of c.command ≡ w) calls
-
-of_push : (w : Who) (calls : List DeskCall) (c : DeskCall) → who_of c.command ≡ w → AreOf w calls → AreOf w (calls ++ c ∷ [])
-of_push w [] c own h = (own, tt)
-of_push w (x ∷ calls) c own h = (h.0, of_push w calls c own h.1)
-
-of_acts : (w : Who) (d : Deeds) (l : NumberedLine) (r : Reply) (m : Meaning) → IsOf w m → AreOf w d.desk.calls → AreOf w (acts d l r m).desk.calls
-of_acts w d l r (Calls c) own h =
-    let call : DeskCall = record { line = l.number; command = c; reply = r } in
-    elim (is_unrecorded r) as (λ b. AreOf w (if b then d.desk.calls else d.desk.calls ++ call ∷ [])) [
-      | true ↦ h
-      | false ↦ of_push w d.desk.calls call own h
-    ]
-of_acts w d l r Silent own h = h
-of_acts w d l r (Shows monitor) own h = h
-of_acts w d l r (Declines x) own h = h
-of_acts w d l r (Changes sides) own h = h
-
-module _ (objects : List Object) (w : Who) where
-  abbrev OwnLine : NumberedLine → Type 0
+module _ (w : Who) where
+  abbrev pub OwnLine : NumberedLine → Type 0
   OwnLine l = is_done_by w l.line ≡ true
-
-  of_does : (d : Deeds) (l : NumberedLine) (r : Reply) → OwnLine l → AreOf w d.desk.calls → AreOf w (does objects d l r).desk.calls
-  of_does d l r own h =
-      let m = own_meaning objects d.sides l in
-      elim d.stopped as (λ b. AreOf w (if b then d else acts d l r m).desk.calls) [
-        | true ↦ h
-        | false ↦ of_acts w d l r m (line_is_of (setting objects d.sides) w l.line own) h
-      ]
-
-  of_lines : (lines : List NumberedLine) (old new : Deeds) → AllByRecursion OwnLine lines → AreOf w old.desk.calls → DoesLines objects lines old new
-      → AreOf w new.desk.calls
-  of_lines [] old new own h did = subst (λ (d : Deeds). AreOf w d.desk.calls) (sym did) h
-  of_lines (l ∷ lines) old new own h did = of_lines lines (does objects old l did.0) new own.1 (of_does old l did.0 own.0 h) did.1
 
   own_if : (l : NumberedLine) (rest : List NumberedLine) (b : Bool) → is_done_by w l.line ≡ b → AllByRecursion OwnLine rest
       → AllByRecursion OwnLine (cond b (l ∷ rest) rest)
   own_if l rest true is h = (is, h)
   own_if l rest false is h = h
 
-  lines_own : (lines : List NumberedLine) → AllByRecursion OwnLine (lines_of_actor w lines)
+  pub lines_own : (lines : List NumberedLine) → AllByRecursion OwnLine (lines_of_actor w lines)
   lines_own [] = tt
   lines_own (l ∷ lines) = own_if l (lines_of_actor w lines) (is_done_by w l.line) refl (lines_own lines)
 
-  own_first : (first later : List NumberedLine) → AllByRecursion OwnLine (first ++ later) → AllByRecursion OwnLine first
+  pub own_first : (first later : List NumberedLine) → AllByRecursion OwnLine (first ++ later) → AllByRecursion OwnLine first
   own_first [] later h = tt
   own_first (l ∷ first) later h = (h.0, own_first first later h.1)
 
-  of_part : (lines : List NumberedLine) (view : DeskView) → AllByRecursion OwnLine lines → AddsPart objects lines nothing_asked view
-      → AreOf w view.calls
-  of_part lines view own h =
-      let first = h.1 in
-      subst (λ (v : DeskView). AreOf w v.calls) (sym h.2)
-      (of_lines first.0 (no_deeds nothing_asked) h.0 (own_first first.0 first.1 (subst (AllByRecursion OwnLine) first.2 own)) tt first.3)
+-- the calls of one entry more
+pub calls_more : (entries : List DeskEntry) (e : DeskEntry) → calls_in (entries ++ e ∷ []) ≡ calls_in entries ++ calls_of e
+calls_more [] e = append-nil (calls_of e)
+calls_more (x ∷ entries) e = ap (λ cs. calls_of x ++ cs) (calls_more entries e) ∙ sym (append_assoc (calls_of x) (calls_in entries) (calls_of e))
+
+abbrev pub reserved_in : Option DeskCall → List DeskCall
+reserved_in found = elim found [ None ↦ [] | Some c ↦ c ∷ [] ]
+
+-- ---- what holds of each call
+
+module _ (Q : Command → Type 0) where
+  abbrev pub AllAre : List DeskCall → Type 0
+  AllAre calls = AllByRecursion (λ (c : DeskCall). Q c.command) calls
+
+  are_append : (calls more : List DeskCall) → AllAre calls → AllAre more → AllAre (calls ++ more)
+  are_append [] more h k = k
+  are_append (x ∷ calls) more h k = (h.0, are_append calls more h.1 k)
+
+  are_more : (entries : List DeskEntry) (e : DeskEntry) → AllAre (calls_in entries) → AllAre (calls_of e) → AllAre (calls_in (entries ++ e ∷ []))
+  are_more entries e h k = subst AllAre (sym (calls_more entries e)) (are_append (calls_in entries) (calls_of e) h k)
+
+  -- of what a line asks: of its call, or of a reservation for this session
+  abbrev pub AskHolds : List ℕ → Asking → Type 0
+  AskHolds session (Makes c) = Q c
+  AskHolds session (Draws i) = (n : ℕ) → Q (command.Reserve session i.object i.nr n)
+  AskHolds session (Declined x) = Unit {0}
+
+  number_asked : (session : List ℕ) (count : ℕ) (s object nr : List ℕ) (found : Option Interval)
+      → ((i : Interval) (n : ℕ) → Q (command.Reserve session i.object i.nr n))
+      → (IfSome found (λ i. is_buffered i ≡ false) → Q (command.Number s object nr))
+      → AskHolds session (drawing_at count (command.Number s object nr) found)
+  number_asked session count s object nr None reserve number = number tt
+  number_asked session count s object nr (Some i) reserve number =
+      elim (nat_le 64 count)
+      as (λ b. AskHolds session (if b then Declined refusal.UnitTooLarge else if is_buffered i then Draws i else Makes (command.Number s object nr))) [
+        | true ↦ tt
+        | false ↦ by_buffer (is_buffered i) refl
+      ]
+    where
+      by_buffer : (b : Bool) → is_buffered i ≡ b → AskHolds session (if b then Draws i else Makes (command.Number s object nr))
+      by_buffer true is = reserve i
+      by_buffer false is = number is
+
+  called_are : (entries : List DeskEntry) (n : ℕ) (c : Command) (r : Reply) → Q c → AllAre (calls_in entries)
+      → AllAre (calls_in (with_called entries n c r))
+  called_are entries n c r own h =
+      let call : DeskCall = record { line = n; command = c; reply = r } in
+      elim (is_unrecorded r) as (λ b. AllAre (calls_in (if b then entries else entries ++ Called call ∷ []))) [
+        | true ↦ h
+        | false ↦ are_more entries (Called call) h (own, tt)
+      ]
+
+  drawing_is : (session : List ℕ) (i : Interval) (n : ℕ) (g : Given) → ((upto : ℕ) → Q (command.Reserve session i.object i.nr upto))
+      → IsDrawing session i (drawing n i g) → AllAre (calls_of (Drew (drawing n i g)))
+  drawing_is session i n g own (Ready x none replied) = subst (λ (o : Option DeskCall). AllAre (reserved_in o)) (sym none) tt
+  drawing_is session i n g own (Reserved x level made replied) = subst (λ (o : Option DeskCall). AllAre (reserved_in o)) (sym made) (own x, tt)
+  drawing_is session i n g own (Refused x y made replied) = subst (λ (o : Option DeskCall). AllAre (reserved_in o)) (sym made) (own x, tt)
+  drawing_is session i n g own (Unkept x none replied unkept) = subst (λ (o : Option DeskCall). AllAre (reserved_in o)) (sym none) tt
+
+  module _ (land : Land) (w : Who) where
+    -- it holds of what each line asks
+    abbrev pub LineHolds : Deeds → NumberedLine → Type 0
+    LineHolds d l = Holds (λ c. AskHolds (session_of w) (asking land.intervals d.desk.entries c)) (own_meaning land.objects d.sides l)
+
+    asks_are : (d : Deeds) (l : NumberedLine) (g : Given) (a : Asking) → AskHolds (session_of w) a → IsGivenFor w l.number g a
+        → AllAre (calls_in d.desk.entries) → AllAre (calls_in (asks d l g a).desk.entries)
+    asks_are d l g (Makes c) own given h = called_are d.desk.entries l.number c g.reply own h
+    asks_are d l g (Draws i) own given h = are_more d.desk.entries (Drew (drawing l.number i g)) h (drawing_is (session_of w) i l.number g own given)
+    asks_are d l g (Declined x) own given h = h
+
+    acts_are : (d : Deeds) (l : NumberedLine) (g : Given) (m : Meaning)
+        → Holds (λ c. AskHolds (session_of w) (asking land.intervals d.desk.entries c)) m → IsGiven land w d l g m
+        → AllAre (calls_in d.desk.entries) → AllAre (calls_in (acts land.intervals d l g m).desk.entries)
+    acts_are d l g (Calls c) own given h = asks_are d l g (asking land.intervals d.desk.entries c) own given h
+    acts_are d l g Silent own given h = h
+    acts_are d l g (Shows monitor) own given h = h
+    acts_are d l g (Declines x) own given h = h
+    acts_are d l g (Changes sides) own given h = h
+
+    module _ (holds : (d : Deeds) (l : NumberedLine) → OwnLine w l → LineHolds d l) where
+      does_are : (d e : Deeds) (l : NumberedLine) → OwnLine w l → AllAre (calls_in d.desk.entries) → DoesLine land w l d e
+          → AllAre (calls_in e.desk.entries)
+      does_are d e l own h did =
+          let g = did.0 in
+          let m = own_meaning land.objects d.sides l in
+          subst (λ (x : Deeds). AllAre (calls_in x.desk.entries)) (sym did.2)
+          (elim d.stopped as (λ b. AllAre (calls_in (if b then d else acts land.intervals d l g m).desk.entries)) [
+            | true ↦ h
+            | false ↦ acts_are d l g m (holds d l own) did.1 h
+          ])
+
+      lines_are : (lines : List NumberedLine) (old new : Deeds) → AllByRecursion (OwnLine w) lines → AllAre (calls_in old.desk.entries)
+          → DoesLines land w lines old new → AllAre (calls_in new.desk.entries)
+      lines_are [] old new own h did = subst (λ (d : Deeds). AllAre (calls_in d.desk.entries)) (sym did) h
+      lines_are (l ∷ lines) old new own h did = lines_are lines did.0 new own.1 (does_are old did.0 l own.0 h did.1) did.2
+
+      part_are : (lines : List NumberedLine) (view : DeskView) → AddsPart land w lines nothing_asked view → AllAre (calls_in view.entries)
+      part_are lines view h =
+          let first = h.1 in
+          subst (λ (v : DeskView). AllAre (calls_in v.entries)) (sym h.2)
+          (lines_are first.0 (no_deeds nothing_asked) h.0
+          (own_first w first.0 first.1 (subst (AllByRecursion (OwnLine w)) first.2 (lines_own w lines))) tt first.3)
+
+      pub did_are : (lines : List NumberedLine) (said : Option (List Said)) (view : DeskView) → DidLines land lines w said nothing_asked view
+          → AllAre (calls_in view.entries)
+      did_are lines None view did = part_are lines view did
+      did_are lines (Some said) view did =
+          lines_are (lines_of_actor w lines) (no_deeds nothing_asked) (deeds did.0 view said did.1) (lines_own w lines) tt did.2
+
+-- ---- whose they are
+
+own_asked : (w : Who) (intervals : List Interval) (entries : List DeskEntry) (c : Command) → IsCallOf w c
+    → AskHolds (IsCallOf w) (session_of w) (asking intervals entries c)
+own_asked w intervals entries (command.Number s object nr) own =
+    number_asked (IsCallOf w) (session_of w) (uncommitted entries) s object nr (interval_at intervals object nr)
+    (λ i n. subst (λ (x : Who). who.Session (session_of x) ≡ x) own refl) (λ none. own)
+own_asked w intervals entries (command.Commit s parts stock) own = own
+own_asked w intervals entries _ own = own
 
 -- the calls of an actor's lines are the actor's
-pub lines_are_own : (objects : List Object) (lines : List NumberedLine) (w : Who) (said : Option (List Said)) (view : DeskView)
-    → DidLines objects lines w said nothing_asked view → AreOf w view.calls
-lines_are_own objects lines w None view did = of_part objects w (lines_of_actor w lines) view (lines_own objects w lines) did
-lines_are_own objects lines w (Some said) view did =
-    of_lines objects w (lines_of_actor w lines) (no_deeds nothing_asked) (deeds did.0 view said did.1) (lines_own objects w lines) tt did.2
+pub lines_are_own : (land : Land) (lines : List NumberedLine) (w : Who) (said : Option (List Said)) (view : DeskView)
+    → DidLines land lines w said nothing_asked view → AllAre (IsCallOf w) (calls_in view.entries)
+lines_are_own land lines w said view did =
+    did_are (IsCallOf w) land w
+    (λ d l own. holds_more (IsCallOf w) (λ c. AskHolds (IsCallOf w) (session_of w) (asking land.intervals d.desk.entries c))
+    (own_asked w land.intervals d.desk.entries) (own_meaning land.objects d.sides l) (line_is_of (setting land.objects d.sides) w l.line own))
+    lines said view did
+
+-- ---- numbers of intervals with a buffer
+
+plain_asked : (session : List ℕ) (intervals : List Interval) (entries : List DeskEntry) (c : Command)
+    → AskHolds (IsNoBuffered intervals) session (asking intervals entries c)
+plain_asked session intervals entries (command.Number s object nr) =
+    number_asked (IsNoBuffered intervals) session (uncommitted entries) s object nr (interval_at intervals object nr) (λ i n. tt) (λ none. none)
+plain_asked session intervals entries (command.Commit s parts stock) = tt
+plain_asked session intervals entries _ = tt
+
+-- none of the calls of an actor's lines is for one
+pub none_buffered : (land : Land) (lines : List NumberedLine) (w : Who) (said : Option (List Said)) (view : DeskView)
+    → DidLines land lines w said nothing_asked view → AllAre (IsNoBuffered land.intervals) (calls_in view.entries)
+none_buffered land lines w said view did =
+    did_are (IsNoBuffered land.intervals) land w
+    (λ d l own. holds_all (λ c. AskHolds (IsNoBuffered land.intervals) (session_of w) (asking land.intervals d.desk.entries c))
+    (plain_asked (session_of w) land.intervals d.desk.entries) (own_meaning land.objects d.sides l))
+    lines said view did

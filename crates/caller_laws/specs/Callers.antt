@@ -1,11 +1,10 @@
 -- Who makes which calls of a history.
-use Rattle.std.specs.Prelude.{◌≡◌, ℕ, zero, suc, Bool, false, List, [], ◌∷◌, ◌++◌, map, Option, IsTrue}
+use Rattle.std.specs.Prelude.{◌≡◌, ℕ, zero, suc, Bool, false, List, [], ◌∷◌, ◌++◌, map, IsTrue}
 use Rattle.std.specs.List.{AllByRecursion, filter, list_any}
 use Rattle.hall_model.specs.Calls.{who_of}
 use Rattle.hall_model.specs.declared.command.PastEntry.{PastEntry}
 use Rattle.hall_model.specs.declared.command.Who.{Who}
 use Rattle.hall_model.specs.declared.command.Who.TheVariants as caller
-use Rattle.script_actors.specs.Actors.{DeskCall, DeskView, desk_call}
 use Rattle.script_actors.specs.Doers.{is_same}
 use Rattle.script_actors.specs.declared.line.NumberedLine.{NumberedLine}
 use Rattle.whole_script.specs.Lines.{names_in}
@@ -16,13 +15,6 @@ is_by w e = is_same w e.who
 -- a caller's calls, in the order of the history
 abbrev pub entries_by : Who → List PastEntry → List PastEntry
 entries_by w past = filter (is_by w) past
-
-abbrev pub calls_by : Who → List PastEntry → List DeskCall
-calls_by w past = map desk_call (entries_by w past)
-
--- the same, as a desk shows them, with the line of the last call that found the history full
-abbrev pub view_by : Who → List PastEntry → Option ℕ → DeskView
-view_by w past full_at = record { calls = calls_by w past; full_at = full_at }
 
 -- each call says who makes it
 abbrev pub AreTheirs : List PastEntry → Type 0

@@ -1,4 +1,5 @@
 pub mod Callers
 pub mod Seen
 pub mod Doing
+pub mod Numbers
 pub mod Rest

@@ -7,5 +7,8 @@ mod laws;
 mod resting;
 
 pub use doubting::doubts_have_causes;
-pub use laws::{callers_are_distinct, calls_are_own, history_is_of_callers, worker_goes_on};
+pub use laws::{
+    callers_are_distinct, calls_are_own, history_is_of_callers, numbers_come_from_stocks,
+    worker_goes_on,
+};
 pub use resting::workers_rest;

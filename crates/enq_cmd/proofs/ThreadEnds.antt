@@ -16,6 +16,7 @@ use Rattle.hall_model.specs.declared.command.Reply.{Reply}
 use Rattle.hall_model.specs.declared.command.Reply.TheVariants as reply
 use Rattle.keeper_api.specs.Rows.{Rows}
 use Rattle.lock_objects.specs.Objects.{Object}
+use Rattle.script_actors.specs.declared.drawing.Drawing.{Drawing}
 use Rattle.script_runner.proofs.lemmas.GoodFiles.{answer_sound}
 use Rattle.script_runner.specs.Faults.{NoneTells, NoneUnsound, NoneUnsoundStore}
 use Rattle.script_runner.specs.Replay.{IsDoubtedBy, Seen}
@@ -33,9 +34,9 @@ use Rattle.enq_cmd.specs.Running.{EndsInRun}
 abbrev pub IsThreadsEnd : Why → Type 0
 IsThreadsEnd why = (why ≡ LogFull) ⊎ IsRunEnd why
 
-module _ (objects : List Object) (workers : ℕ) (before after : State) (old new : Seen) where
+module _ (objects : List Object) (workers : ℕ) (before after : State) (drawn : List Drawing) (old new : Seen) where
   abbrev Runs : Why → Type 0
-  Runs why = RunsThreads objects workers before after old new why
+  Runs why = RunsThreads objects workers before after drawn old new why
 
   -- an end that neither a reading nor a run has
   none_ends : (why : Why) → (Runs why → ⊥) → ∥ Runs why ∥₁ → IsThreadsEnd why

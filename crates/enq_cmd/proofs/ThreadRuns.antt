@@ -18,6 +18,7 @@ use Rattle.landscape.specs.declared.landscape.Landscape.{Landscape}
 use Rattle.lock_entry.specs.declared.entry.Entry.{Entry}
 use Rattle.lock_objects.specs.Objects.{Object}
 use Rattle.order_laws.specs.Behind.{NoneHasOrder}
+use Rattle.script_actors.specs.declared.drawing.Drawing.{Drawing}
 use Rattle.script_runner.specs.Faults.{NoneUnsound, NoneUnsoundStore}
 use Rattle.script_runner.specs.Replay.{Seen, seen}
 use Rattle.script_runner.specs.Replicas.{CountsLinkEach, LinkCounts, link_counts}
@@ -98,7 +99,7 @@ module _ {K D L : Type 0} (held : K → Option Rows) (may_leave : K → Rows →
         (units : HasOpenUnits after.state) (replica : Option (List Entry))
         (follows : after.state.attached ≡ true → IfSome replica (λ list. list ≡ after.state.locks))
         (known : List Object) (same : known ≡ objects) (workers : ℕ) (rest rest_now written written_now : Option (List ℕ)) (source source_now sink sink_now : ℕ)
-        (why end : Why) (ends : end ≡ why) where
+        (drawn told_drawn : List Drawing) (drew : told_drawn ≡ drawn) (why end : Why) (ends : end ≡ why) where
       abbrev seen_old : K → D → Seen
       seen_old k d = seen rest written source sink (faults k) (file_faults d)
 
@@ -112,24 +113,26 @@ module _ {K D L : Type 0} (held : K → Option Rows) (may_leave : K → Rows →
       new_to = λ i. seen rest_now written_now source_now sink_now (faults (sym kept i)) (file_faults (sym kept_disk i))
 
       -- a run of the server that was opened is one from its first state, with the landscape's lock objects
-      runs_from : (s : State) → after.state ≡ s → RunsThreads known workers hall.state after.state (seen_old hall.keeper hall.file.disk)
+      runs_from : (s : State) → after.state ≡ s → RunsThreads known workers hall.state after.state drawn (seen_old hall.keeper hall.file.disk)
           (seen_new after.keeper after.file.disk) why
-          → RunsThreads o.land.objects workers first s (seen_old keeper disk) (seen_new keeper_now disk_now) end
+          → RunsThreads o.land.objects workers first s told_drawn (seen_old keeper disk) (seen_new keeper_now disk_now) end
       runs_from s is h =
-          subst (λ w. RunsThreads o.land.objects workers first s (seen_old keeper disk) (seen_new keeper_now disk_now) w) (sym ends)
-          (subst (λ n. RunsThreads o.land.objects workers first s (seen_old keeper disk) n why) new_to
-          (subst (λ n. RunsThreads o.land.objects workers first s n (seen_new after.keeper after.file.disk) why) old_from
-          (subst (λ x. RunsThreads o.land.objects workers first x (seen_old hall.keeper hall.file.disk) (seen_new after.keeper after.file.disk) why) is
-          (subst (λ x. RunsThreads o.land.objects workers x after.state (seen_old hall.keeper hall.file.disk) (seen_new after.keeper after.file.disk) why)
+          subst (λ ds. RunsThreads o.land.objects workers first s ds (seen_old keeper disk) (seen_new keeper_now disk_now) end) (sym drew)
+          (subst (λ w. RunsThreads o.land.objects workers first s drawn (seen_old keeper disk) (seen_new keeper_now disk_now) w) (sym ends)
+          (subst (λ n. RunsThreads o.land.objects workers first s drawn (seen_old keeper disk) n why) new_to
+          (subst (λ n. RunsThreads o.land.objects workers first s drawn n (seen_new after.keeper after.file.disk) why) old_from
+          (subst (λ x. RunsThreads o.land.objects workers first x drawn (seen_old hall.keeper hall.file.disk) (seen_new after.keeper after.file.disk) why) is
+          (subst (λ x. RunsThreads o.land.objects workers x after.state drawn (seen_old hall.keeper hall.file.disk) (seen_new after.keeper after.file.disk) why)
           o.first
-          (subst (λ os. RunsThreads os workers hall.state after.state (seen_old hall.keeper hall.file.disk) (seen_new after.keeper after.file.disk) why)
-          (same ∙ o.known) h)))))
+          (subst (λ os. RunsThreads os workers hall.state after.state drawn (seen_old hall.keeper hall.file.disk) (seen_new after.keeper after.file.disk) why)
+          (same ∙ o.known) h))))))
 
       served_so : Leads after.state (counted keeper disk link) (counted keeper_now disk_now link_now)
-          → RunsThreads known workers hall.state after.state (seen_old hall.keeper hall.file.disk) (seen_new after.keeper after.file.disk) why
+          → RunsThreads known workers hall.state after.state drawn (seen_old hall.keeper hall.file.disk) (seen_new after.keeper after.file.disk) why
           → IsServedByThreads o.land workers (found_in held may_leave tells reads images applied keeper disk link)
           (record { rows = may_leave keeper_now; images = images disk_now; list = replica })
-          (seen_old keeper disk) (seen_new keeper_now disk_now) (link_counts link_faults refusals link) (link_counts link_faults refusals link_now) past end
+          (seen_old keeper disk) (seen_new keeper_now disk_now) (link_counts link_faults refusals link)
+          (link_counts link_faults refusals link_now) past told_drawn end
       served_so h run = record {
         stored = hall.state.stored;
         made = h.made;
@@ -141,10 +144,12 @@ module _ {K D L : Type 0} (held : K → Option Rows) (may_leave : K → Rows →
         link = linked_past (counted keeper disk link) (counted keeper_now disk_now link_now) h;
       }
 
-      pub threads_by : ∥ RunsThreads known workers hall.state after.state (seen_old hall.keeper hall.file.disk) (seen_new after.keeper after.file.disk) why ∥₁
+      pub threads_by : ∥ RunsThreads known workers hall.state after.state drawn (seen_old hall.keeper hall.file.disk)
+          (seen_new after.keeper after.file.disk) why ∥₁
           → ∥ HasThreads workers left (found_in held may_leave tells reads images applied keeper disk link)
           (record { rows = may_leave keeper_now; images = images disk_now; list = replica }) disk disk_now link link_now
-          (seen_old keeper disk) (seen_new keeper_now disk_now) (link_counts link_faults refusals link) (link_counts link_faults refusals link_now) past end ∥₁
+          (seen_old keeper disk) (seen_new keeper_now disk_now) (link_counts link_faults refusals link)
+          (link_counts link_faults refusals link_now) past told_drawn end ∥₁
       threads_by runs =
           ∥∥₁_elim leads ∥∥₁_prop (λ h. ∥∥₁_map runs (λ run. record {
             land = o.land;
@@ -156,28 +161,31 @@ module _ {K D L : Type 0} (held : K → Option Rows) (may_leave : K → Rows →
 pub unthreaded : {S T K D L : Type 0} (held : K → Option Rows) (may_leave : K → Rows → Type 0) (faults : K → ℕ) (tells : Bool) (reads : D → List ℕ)
     (images : D → List ℕ → Type 0) (file_faults : D → ℕ) (applied : L → Option (List Entry))
     (workers : ℕ) (left : Option (List ℕ)) (before now : ℕ) (script : S) (sink : T) (keeper keeper_now : K) (disk disk_now : D) (link link_now : L)
-    (rest written : Option (List ℕ)) (source_faults sink_faults : ℕ) (counts counts_now : LinkCounts) (past : List PastEntry) (why : Why)
-    → past ≡ [] → link_now ≡ link
+    (rest written : Option (List ℕ)) (source_faults sink_faults : ℕ) (counts counts_now : LinkCounts) (past : List PastEntry) (drawn : List Drawing) (why : Why)
+    → past ≡ [] → drawn ≡ [] → link_now ≡ link
     → IsUnlanded before now keeper keeper_now disk disk_now why ⊎ IsLandedAlone held may_leave faults tells reads images file_faults applied left
     keeper keeper_now disk disk_now link link_now why
     → ∥ HasThreads workers left (found_in held may_leave tells reads images applied keeper disk link)
     (left_in may_leave images applied keeper_now disk_now link_now)
     disk disk_now link link_now (seen rest written source_faults sink_faults (faults keeper) (file_faults disk))
-    (seen rest written source_faults sink_faults (faults keeper_now) (file_faults disk_now)) counts counts_now past why ∥₁
-    ⊎ (IsLandEnd before now why × IsUntouched script script sink sink keeper keeper_now disk disk_now link link_now past)
+    (seen rest written source_faults sink_faults (faults keeper_now) (file_faults disk_now)) counts counts_now past drawn why ∥₁
+    ⊎ (IsLandEnd before now why × IsUntouched script script sink sink keeper keeper_now disk disk_now link link_now past × (drawn ≡ []))
 unthreaded held may_leave faults tells reads images file_faults applied workers left before now script sink keeper keeper_now disk disk_now link link_now
-    rest written source_faults sink_faults counts counts_now past why none same (inl u) =
-    inr (u.end, record { reading = refl; writing = refl; storing = u.storing; filing = u.filing; linking = same; none = none })
+    rest written source_faults sink_faults counts counts_now past drawn why none undrawn same (inl u) =
+    inr (u.end, record { reading = refl; writing = refl; storing = u.storing; filing = u.filing; linking = same; none = none }, undrawn)
 unthreaded held may_leave faults tells reads images file_faults applied workers left before now script sink keeper keeper_now disk disk_now link link_now
-    rest written source_faults sink_faults counts counts_now past why none same (inr a) =
+    rest written source_faults sink_faults counts counts_now past drawn why none undrawn same (inr a) =
     inl ∣ record {
       land = a.land;
       read = a.read;
-      serves = inr (subst
-          (λ p. IsUnopened (found_in held may_leave tells reads images applied keeper disk link) (left_in may_leave images applied keeper_now disk_now link_now)
-          disk disk_now link link_now (seen rest written source_faults sink_faults (faults keeper) (file_faults disk))
-          (seen rest written source_faults sink_faults (faults keeper_now) (file_faults disk_now)) p why) (sym none)
-          (a.unopened rest written source_faults sink_faults));
+      serves = inr (
+        subst
+            (λ p. IsUnopened (found_in held may_leave tells reads images applied keeper disk link) (left_in may_leave images applied keeper_now disk_now link_now)
+            disk disk_now link link_now (seen rest written source_faults sink_faults (faults keeper) (file_faults disk))
+            (seen rest written source_faults sink_faults (faults keeper_now) (file_faults disk_now)) p why) (sym none)
+            (a.unopened rest written source_faults sink_faults),
+        undrawn,
+      );
     } ∣₁
 
 -- for its end no line is to blame

@@ -10,7 +10,7 @@ use Rattle.landscape.specs.declared.landscape.Landscape.{Landscape}
 use Rattle.lock_objects.specs.Objects.{Object}
 use Rattle.posting.specs.Reopening.{HasStood}
 use Rattle.ledger_steps.specs.Starts.{IsRaised}
-use Rattle.ledger_steps.specs.Levels.{FitRows}
+use Rattle.ledger_steps.specs.Levels.{AreIntervals, FitRows}
 use Rattle.script_runner.specs.Replay.{seen}
 use Rattle.script_runner.specs.declared.runner.Why.{Why}
 use Rattle.store_reading.specs.Good.{IsSound}
@@ -25,6 +25,7 @@ pub record IsOpened {K D L : Type 0} (held : K → Option Rows) (may_leave : K �
   pub read : IsRead left land
   pub known : objects ≡ land.objects
   pub first : hall.state ≡ first_state land (is_some (held keeper)) (is_some (applied link)) hall.state.stored
+  pub intervals : AreIntervals land.ranges
   pub sound : IsRaised IsSound true hall.state.stored
   pub stored : IfSome (held hall.keeper) (λ _. IsRaised (HasStood (may_leave keeper)) true hall.state.stored)
   pub fits : FitRows land.ranges hall.state.stored.levels

@@ -28,6 +28,7 @@ pub(crate) fn cover_site<A: Source, S: Source, T: Sink, K: Keeper, D: Disk, L: L
     sink: &mut T,
     site: Site<K, D, L>,
 ) -> Ended<K, D, L>
+    ensures drawn { result.drawn ≡ [] }
     ensures status { result.status ≡ status_of result.why }
     ensures past { result.past ≡ [] }
     ensures keeper { result.site.keeper ≡ site.keeper }

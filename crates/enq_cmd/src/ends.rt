@@ -7,6 +7,7 @@ use enq_base::Items;
 use hall_model::PastEntry;
 use keeper_api::Keeper;
 use replica_link::Link;
+use script_actors::Drawing;
 use script_runner::Why;
 use std::alloc::Global;
 
@@ -19,17 +20,19 @@ pub(crate) fn left_alone<K: Keeper, D: Disk, L: Link>(
     ensures status { result.status ≡ status_of why }
     ensures why { result.why ≡ why }
     ensures past { result.past ≡ [] }
+    ensures drawn { result.drawn ≡ [] }
     ensures keeper { result.site.keeper ≡ site.keeper }
     ensures disk { result.site.disk ≡ site.disk }
     ensures link { result.site.link ≡ site.link }
 {
     let Site { keeper, disk, link } = site;
-    make_ended(why, Vec::new(alloc), keeper, disk, link)
+    make_ended(why, Vec::new(alloc), Vec::new(alloc), keeper, disk, link)
 }
 
 pub(crate) fn make_ended<K: Keeper, D: Disk, L: Link>(
     why: Why,
     past: Vec<PastEntry>,
+    drawn: Vec<Drawing>,
     keeper: K,
     disk: D,
     link: L,
@@ -37,6 +40,7 @@ pub(crate) fn make_ended<K: Keeper, D: Disk, L: Link>(
     ensures status { result.status ≡ status_of why }
     ensures why { result.why ≡ why }
     ensures past { result.past ≡ past.items }
+    ensures drawn { result.drawn ≡ drawn.items }
     ensures keeper { result.site.keeper ≡ keeper }
     ensures disk { result.site.disk ≡ disk }
     ensures link { result.site.link ≡ link }
@@ -46,6 +50,7 @@ pub(crate) fn make_ended<K: Keeper, D: Disk, L: Link>(
         why,
         site: Site { keeper, disk, link },
         past: Items::from_vec(past),
+        drawn: Items::from_vec(drawn),
     }
 }
 

@@ -40,6 +40,7 @@ pub(crate) fn load_site<A: Source, T: Sink, K: Keeper, D: Disk, L: Link>(
     site: Site<K, D, L>,
 ) -> Ended<K, D, L>
     requires count { units ≤ 10000 }
+    ensures drawn { result.drawn ≡ [] }
     ensures status { result.status ≡ status_of result.why }
     ensures words { result.why ≢ Why.BadWords }
     ensures full { result.why ≢ Why.LogFull }
@@ -97,7 +98,7 @@ pub(crate) fn load_site<A: Source, T: Sink, K: Keeper, D: Disk, L: Link>(
         Ok((mut hall, objects)) => {
             let why = load(alloc, &mut source, sink, &mut hall, objects.as_slice());
             let (keeper, disk, link, past) = hall.into_site();
-            make_ended(why, past, keeper, disk, link)
+            make_ended(why, past, Vec::new(alloc), keeper, disk, link)
         }
         Err(ended) => ended,
     }

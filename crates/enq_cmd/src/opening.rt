@@ -36,6 +36,7 @@ pub(crate) fn open_hall<A: Source, K: Keeper, D: Disk, L: Link>(
     ensures steady { IfOk result (λ o. A.faults landscape.new ≡ A.faults landscape.old) }
     ensures status { IfErr result (λ e. e.status ≡ status_of e.why) }
     ensures past { IfErr result (λ e. e.past ≡ []) }
+    ensures drawn { IfErr result (λ e. e.drawn ≡ []) }
     ensures unserved { IfErr result (λ e.
         IsUnlanded (A.faults landscape.old) (A.faults landscape.new) site.keeper e.site.keeper site.disk e.site.disk
         e.why
@@ -100,6 +101,7 @@ pub(crate) fn open_hall<A: Source, K: Keeper, D: Disk, L: Link>(
         Ok(hall) => Ok((hall, objects)),
         Err((fault, keeper, disk, link)) => Err(make_ended(
             opening_end(fault),
+            Vec::new(alloc),
             Vec::new(alloc),
             keeper,
             disk,

@@ -31,6 +31,7 @@ pub(crate) fn replay_site<A: Source, S: Source, T: Sink, K: Keeper, D: Disk, L: 
     sink: &mut T,
     site: Site<K, D, L>,
 ) -> Ended<K, D, L>
+    ensures drawn { result.drawn ≡ [] }
     ensures status { result.status ≡ status_of result.why }
     ensures words { result.why ≢ Why.BadWords }
     ensures full { result.why ≢ Why.LogFull }
@@ -92,7 +93,7 @@ pub(crate) fn replay_site<A: Source, S: Source, T: Sink, K: Keeper, D: Disk, L: 
         Ok((mut hall, objects)) => {
             let why = replay(alloc, script, sink, &mut hall, objects.as_slice());
             let (keeper, disk, link, past) = hall.into_site();
-            make_ended(why, past, keeper, disk, link)
+            make_ended(why, past, Vec::new(alloc), keeper, disk, link)
         }
         Err(ended) => ended,
     }

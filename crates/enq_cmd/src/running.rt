@@ -57,10 +57,10 @@ pub(crate) fn run_site<
         (seen (S.left script.new) (T.written sink.new) (S.faults script.new) (T.faults sink.new)
         (K.faults result.site.keeper) (D.faults result.site.disk))
         (link_counts L.faults L.refusals site.link) (link_counts L.faults L.refusals result.site.link)
-        result.past result.why ∥₁
+        result.past result.drawn result.why ∥₁
         ⊎ (IsLandEnd (A.faults landscape.old) (A.faults landscape.new) result.why
         × IsUntouched script.old script.new sink.old sink.new site.keeper result.site.keeper site.disk result.site.disk
-        site.link result.site.link result.past) }
+        site.link result.site.link result.past × (result.drawn ≡ [])) }
     ensures told { is_some (K.held result.site.keeper) ≡ is_some (K.held site.keeper) }
     ensures link_told { is_some (L.applied result.site.link) ≡ is_some (L.applied site.link) }
     ensures bad_landscape { (bytes : List ℕ) → A.left landscape.old ≡ Some bytes
@@ -106,7 +106,7 @@ pub(crate) fn run_site<
 {
     match open_hall(alloc, landscape, site) {
         Ok((hall, objects)) => {
-            let (hall, why) = run(
+            let (hall, drawn, why) = run(
                 rt,
                 alloc,
                 script,
@@ -117,7 +117,7 @@ pub(crate) fn run_site<
                 &NoGate,
             );
             let (keeper, disk, link, past) = hall.into_site();
-            make_ended(why, past, keeper, disk, link)
+            make_ended(why, past, drawn, keeper, disk, link)
         }
         Err(ended) => ended,
     }

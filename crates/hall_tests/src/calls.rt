@@ -21,7 +21,7 @@ use single_calls::SingleCalls;
 use std::alloc::Global;
 use std::test::*;
 
-type MemHall = Hall<ListTable, MemKeeper, MemDisk, MemLink>;
+pub(crate) type MemHall = Hall<ListTable, MemKeeper, MemDisk, MemLink>;
 
 // A call of the one session, or of a worker.
 #[derive(Clone, Copy)]
@@ -116,7 +116,7 @@ fn buffered_object() -> Result<Name, Fail> {
     Ok(read_name(b"ZBUF").ok_or("a name")?)
 }
 
-fn logon(hall: &mut MemHall, session: Name) -> Result<Reply, Fail> {
+pub(crate) fn logon(hall: &mut MemHall, session: Name) -> Result<Reply, Fail> {
     let user = read_name(b"MILLER").ok_or("a name")?;
     Ok(hall.logon(1, session, user))
 }
@@ -137,7 +137,17 @@ fn free(alloc: Global, hall: &mut MemHall, session: Name, order: &[u8]) -> Resul
 
 fn commit(alloc: Global, hall: &mut MemHall, session: Name, effects: usize) -> Result<Reply, Fail> {
     let parts = parts_of(alloc, effects)?;
-    Ok(hall.commit(alloc, 1, session, parts, no_stock(alloc)))
+    Ok(commit_parts(alloc, hall, session, parts))
+}
+
+// A commit of these parts, without numbers of a stock.
+pub(crate) fn commit_parts(
+    alloc: Global,
+    hall: &mut MemHall,
+    session: Name,
+    parts: Parts,
+) -> Reply {
+    hall.commit(alloc, 1, session, parts, no_stock(alloc))
 }
 
 fn read(alloc: Global, hall: &mut MemHall, session: Name) -> Result<Reply, Fail> {
@@ -402,7 +412,7 @@ fn one_interval(alloc: Global) -> Result<Vec<Interval>, Fail>
 }
 
 // A landscape without number ranges.
-fn no_intervals(alloc: Global) -> Vec<Interval>
+pub(crate) fn no_intervals(alloc: Global) -> Vec<Interval>
     ensures { AreIntervals result.items }
 {
     Vec::new(alloc)

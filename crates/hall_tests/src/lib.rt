@@ -3,3 +3,7 @@
 
 #[cfg(test)]
 mod calls;
+#[cfg(test)]
+mod drafts;
+#[cfg(test)]
+mod many_rows;

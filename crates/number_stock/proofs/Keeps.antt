@@ -10,10 +10,10 @@ use native.Mathlib.Decide.{ℕ_discrete}
 use mathlib.Core.Option.{none}
 use Rattle.atomic_table.specs.Table.{State, Me, step, keeps, Allows, Splits, Joins}
 use Rattle.seat_sums.specs.Sums.{times, one_if}
-use Rattle.seat_sums.proofs.lemmas.Totals.{total_set, total_at, total_two, total_whole, each_set, each_snoc, was_there, times_cons, times_push, times_append, below_next, one_if_le, one_if_true, one_if_below}
+use Rattle.seat_sums.proofs.lemmas.Totals.{total_le, total_set, total_at, total_two, total_whole, each_set, each_snoc, was_there, times_cons, times_push, times_append, below_next, one_if_le, one_if_true, one_if_below}
 use Rattle.seat_sums.proofs.lemmas.Entries.{below_none, below_higher}
 use Rattle.number_stock.specs.declared.hand.Hand.{Hand}
-use Rattle.number_stock.specs.Rule.{Fits, Kept, spent, drew, saw, raised, kept_of, given_of, leads, both_of, IsKnown, Draws, Looks, Raises, Learns}
+use Rattle.number_stock.specs.Rule.{Fits, Kept, spent, drew, saw, raised, kept_of, given_of, rest_of, unused_of, leads, both_of, IsKnown, Draws, Looks, Raises, Learns}
 
 drew_fits : (limit ticket : ℕ) (v : Hand) → Fits limit v → Fits limit (drew ticket v)
 drew_fits limit ticket v f = record {
@@ -21,6 +21,7 @@ drew_fits limit ticket v f = record {
   set = f.set;
   led = f.led;
   below = f.below;
+  low = f.low;
   own = λ t. omega (arith, f.own t, times_push t v.tickets ticket);
 }
 
@@ -47,6 +48,7 @@ saw_fits_if : (limit ticket : ℕ) (v : Hand) (b : Bool) → ltb ticket limit �
       draws = v.draws;
       tickets = v.tickets;
       answered = if b then v.answered ++ ticket ∷ [] else v.answered;
+      drawn = if b then v.drawn ++ ticket ∷ [] else v.drawn;
       limit = limit;
       looks =
           v.looks + 1;
@@ -58,6 +60,7 @@ saw_fits_if limit ticket v true is f open_yet = record {
   set = λ _. refl;
   led = f.led;
   below = All-push (λ t. t < limit) v.answered ticket (below_higher v.limit limit v.answered f.seen f.below) (ltb-true ticket limit is);
+  low = All-push (λ t. t < limit) v.drawn ticket (below_higher v.limit limit v.drawn f.seen f.low) (ltb-true ticket limit is);
   own = λ t. own_more t;
 }
   where
@@ -71,8 +74,15 @@ saw_fits_if limit ticket v false is f open_yet = record {
   set = λ _. refl;
   led = f.led;
   below = below_higher v.limit limit v.answered f.seen f.below;
+  low = below_higher v.limit limit v.drawn f.seen f.low;
   own = f.own;
 }
+
+-- a ticket that is answered is remembered
+more_drawn : (t ticket : ℕ) (b : Bool) (drawn answered : List ℕ)
+    → times t (if b then drawn ++ ticket ∷ [] else drawn) + times t answered ≡ times t drawn + times t (if b then answered ++ ticket ∷ [] else answered)
+more_drawn t ticket true drawn answered = omega (arith, times_push t drawn ticket, times_push t answered ticket)
+more_drawn t ticket false drawn answered = refl
 
 saw_fits : (limit found ticket : ℕ) (v : Hand) → found ≡ limit → Fits limit v → times ticket v.answered < times ticket v.tickets
     → Fits limit (saw ticket found v)
@@ -107,11 +117,21 @@ both_fits limit v w f g = let f₀ = f.seen in let g₀ = g.seen in record {
   below = All-append (λ t. t < max v.limit w.limit) v.answered w.answered
       (below_higher v.limit (max v.limit w.limit) v.answered (omega arith) f.below)
       (below_higher w.limit (max v.limit w.limit) w.answered (omega arith) g.below);
+  low = All-append (λ t. t < max v.limit w.limit) v.drawn w.drawn
+      (below_higher v.limit (max v.limit w.limit) v.drawn (omega arith) f.low)
+      (below_higher w.limit (max v.limit w.limit) w.drawn (omega arith) g.low);
   own = λ t. let a = f.own t in let b = g.own t in omega (arith, times_append t v.answered w.answered, times_append t v.tickets w.tickets);
 }
 
 spent_fits : (limit : ℕ) → Fits limit spent
-spent_fits limit = record { seen = omega arith; set = λ yes. absurd (true≢false (sym yes)); led = refl; below = below_none 0; own = λ t. omega arith }
+spent_fits limit = record {
+  seen = omega arith;
+  set = λ yes. absurd (true≢false (sym yes));
+  led = refl;
+  below = below_none 0;
+  low = below_none 0;
+  own = λ t. omega arith;
+}
 
 module _ {S : Type 0} where
   word_0 : (s : State S Hand) (n l : ℕ) → s.words ≡ n ∷ l ∷ [] → slice_index s.words 0 ≡ n
@@ -145,6 +165,10 @@ module _ {S : Type 0} where
               omega (arith, below_next t k.next);
           draws_left = let change = total_set (λ (u : Hand). u.draws) s.views id v w at in omega arith;
           one_raises = let change = total_set (λ (u : Hand). one_if u.raises) s.views id v w at in let was = k.one_raises in omega arith;
+          remembered = λ t.
+              let was = k.remembered t in
+              let one = total_set (λ (u : Hand). times t u.drawn) s.views id v w at in
+              let two = total_set (λ (u : Hand). times t u.answered) s.views id v w at in omega arith;
           each = each_set (λ _. Fits k.limit) s.views id w (drew_fits k.limit found v (k.each id v at)) (λ j u _ there. k.each j u there);
         },
         (
@@ -183,6 +207,11 @@ module _ {S : Type 0} where
           tickets = λ t. let was = k.tickets t in let change = total_set (λ (u : Hand). times t u.tickets) s.views id v w at in omega arith;
           draws_left = let change = total_set (λ (u : Hand). u.draws) s.views id v w at in omega arith;
           one_raises = let change = total_set (λ (u : Hand). one_if u.raises) s.views id v w at in let was = k.one_raises in omega arith;
+          remembered = λ t.
+              let was = k.remembered t in
+              let one = total_set (λ (u : Hand). times t u.drawn) s.views id v w at in
+              let two = total_set (λ (u : Hand). times t u.answered) s.views id v w at in
+              omega (arith, more_drawn t ticket (ltb ticket found) v.drawn v.answered);
           each = each_set (λ _. Fits k.limit) s.views id w (saw_fits k.limit found ticket v here fits open_yet) (λ j u _ there. k.each j u there);
         },
         (refl, (let low = fits.seen in omega arith), (λ yes. here ∙ sym (fits.set yes)), omega arith),
@@ -209,12 +238,17 @@ module _ {S : Type 0} where
           tickets = λ t. let was = k.tickets t in let change = total_set (λ (u : Hand). times t u.tickets) s.views id v w at in omega arith;
           draws_left = let change = total_set (λ (u : Hand). u.draws) s.views id v w at in let was = k.draws_left in omega arith;
           one_raises = let change = total_set (λ (u : Hand). one_if u.raises) s.views id v w at in let was = k.one_raises in omega arith;
+          remembered = λ t.
+              let was = k.remembered t in
+              let one = total_set (λ (u : Hand). times t u.drawn) s.views id v w at in
+              let two = total_set (λ (u : Hand). times t u.answered) s.views id v w at in omega arith;
           each = each_set (λ _. Fits now) s.views id w
               record {
                 seen = omega arith;
                 set = λ _. ap (λ (n : ℕ). max n limit) set_last;
                 led = mine.led;
                 below = below_higher v.limit (max v.limit limit) v.answered (omega arith) mine.below;
+                low = below_higher v.limit (max v.limit limit) v.drawn (omega arith) mine.low;
                 own = mine.own;
               }
               (λ j u ne there.
@@ -226,6 +260,7 @@ module _ {S : Type 0} where
                 led = f.led;
                 below =
                     f.below;
+                low = f.low;
                 own = f.own;
               });
         },
@@ -246,6 +281,10 @@ module _ {S : Type 0} where
           tickets = λ t. let was = k.tickets t in let change = total_set (λ (u : Hand). times t u.tickets) s.views id v v at in omega arith;
           draws_left = let change = total_set (λ (u : Hand). u.draws) s.views id v v at in let was = k.draws_left in omega arith;
           one_raises = let change = total_set (λ (u : Hand). one_if u.raises) s.views id v v at in let was = k.one_raises in omega arith;
+          remembered = λ t.
+              let was = k.remembered t in
+              let one = total_set (λ (u : Hand). times t u.drawn) s.views id v v at in
+              let two = total_set (λ (u : Hand). times t u.answered) s.views id v v at in omega arith;
           each = each_set (λ _. Fits k.limit) s.views id v mine (λ j u _ there. k.each j u there);
         },
         (
@@ -257,6 +296,15 @@ module _ {S : Type 0} where
               one_if_lt2 t k.next in omega arith),
           mine.below,
           mine.led,
+          (
+            (λ t.
+                let low = total_at (λ (u : Hand). times t u.drawn) s.views id v at in
+                let same = k.remembered t in
+                let few = total_le (λ (u : Hand). times t u.answered) (λ (u : Hand). times t u.tickets) s.views (λ j u there. (k.each j u there).own t) in
+                let all = k.tickets t in
+                let one = one_if_lt2 t k.next in omega arith),
+            mine.low,
+          ),
         ),
       )
 
@@ -281,9 +329,66 @@ module _ {S : Type 0} where
             let was = k.one_raises in
             let change = total_set (λ (u : Hand). one_if u.raises) s.views id v l at in
             let more = sum_by_push (λ (u : Hand). one_if u.raises) views r in omega arith;
+        remembered = λ t.
+            let was = k.remembered t in
+            let one = total_set (λ (u : Hand). times t u.drawn) s.views id v l at in
+            let two = total_set (λ (u : Hand). times t u.answered) s.views id v l at in
+            let more = sum_by_push (λ (u : Hand). times t u.drawn) views r in
+            let also = sum_by_push (λ (u : Hand). times t u.answered) views r in omega arith;
         each = each_snoc (Fits k.limit) views r
-            record { seen = mine.seen; set = λ yes. absurd (true≢false (sym yes)); led = refl; below = below_none v.limit; own = λ t. omega arith }
-            (each_set (λ _. Fits k.limit) s.views id l record { seen = mine.seen; set = mine.set; led = mine.led; below = mine.below; own = mine.own }
+            record {
+              seen = mine.seen;
+              set = λ yes. absurd (true≢false (sym yes));
+              led = refl;
+              below = below_none v.limit;
+              low = below_none v.limit;
+              own =
+                  λ t. omega arith;
+            }
+            (each_set (λ _. Fits k.limit) s.views id l
+            record { seen = mine.seen; set = mine.set; led = mine.led; below = mine.below; low = mine.low; own = mine.own }
+            (λ j u _ there. k.each j u there));
+      }
+
+  pub yields_allowed : (draws id : ℕ) (v : Hand) → Splits {S = S} (Kept draws) id v (rest_of v) (unused_of v)
+  yields_allowed draws id v s k at =
+      let l = rest_of v in
+      let r = unused_of v in
+      let mine = k.each id v at in
+      let views = set s.views id l in record {
+        next = k.next;
+        limit = k.limit;
+        words = k.words;
+        tickets = λ t.
+            let was = k.tickets t in
+            let change = total_set (λ (u : Hand). times t u.tickets) s.views id v l at in
+            let more = sum_by_push (λ (u : Hand). times t u.tickets) views r in omega arith;
+        draws_left =
+            let was = k.draws_left in
+            let change = total_set (λ (u : Hand). u.draws) s.views id v l at in
+            let more = sum_by_push (λ (u : Hand). u.draws) views r in omega arith;
+        one_raises =
+            let was = k.one_raises in
+            let change = total_set (λ (u : Hand). one_if u.raises) s.views id v l at in
+            let more = sum_by_push (λ (u : Hand). one_if u.raises) views r in omega arith;
+        remembered = λ t.
+            let was = k.remembered t in
+            let one = total_set (λ (u : Hand). times t u.drawn) s.views id v l at in
+            let two = total_set (λ (u : Hand). times t u.answered) s.views id v l at in
+            let more = sum_by_push (λ (u : Hand). times t u.drawn) views r in
+            let also = sum_by_push (λ (u : Hand). times t u.answered) views r in omega arith;
+        each = each_snoc (Fits k.limit) views r
+            record {
+              seen = mine.seen;
+              set = λ yes. absurd (true≢false (sym yes));
+              led = refl;
+              below = below_none v.limit;
+              low = mine.low;
+              own =
+                  λ t. omega arith;
+            }
+            (each_set (λ _. Fits k.limit) s.views id l
+            record { seen = mine.seen; set = mine.set; led = mine.led; below = mine.below; low = below_none v.limit; own = mine.own }
             (λ j u _ there. k.each j u there));
       }
 
@@ -310,6 +415,13 @@ module _ {S : Type 0} where
             let one = total_set (λ (u : Hand). one_if u.raises) s.views id v b at in
             let two = total_set (λ (u : Hand). one_if u.raises) views other w spent there in
             omega (arith, one_if_or v.raises w.raises (omega arith));
+        remembered = λ t.
+            let was = k.remembered t in
+            let one = total_set (λ (u : Hand). times t u.drawn) s.views id v b at in
+            let two = total_set (λ (u : Hand). times t u.drawn) views other w spent there in
+            let three = total_set (λ (u : Hand). times t u.answered) s.views id v b at in
+            let four = total_set (λ (u : Hand). times t u.answered) views other w spent there in
+            omega (arith, times_append t v.drawn w.drawn, times_append t v.answered w.answered);
         each = each_set (λ _. Fits k.limit) views other spent (spent_fits k.limit)
             (λ j u _ e. each_set (λ _. Fits k.limit) s.views id b (both_fits k.limit v w (k.each id v at) (k.each other w was_at))
             (λ i y _ e'. k.each i y e') j u e);

@@ -1,5 +1,5 @@
 -- The rule of a stock, and what each step tells.
-use Rattle.std.specs.Prelude.{◌≡◌, ℕ, ◌+◌, ◌-◌, ◌<◌, ◌≤◌, max, Bool, true, false, ◌&&◌, ◌||◌, leb, ltb, [], ◌∷◌, ◌++◌}
+use Rattle.std.specs.Prelude.{◌≡◌, ℕ, ◌+◌, ◌-◌, ◌<◌, ◌≤◌, max, Bool, true, false, ◌&&◌, ◌||◌, leb, ltb, List, [], ◌∷◌, ◌++◌}
 use Rattle.std.specs.Prelude.{if◌then◌else◌, All}
 use Rattle.std.specs.List.{sum_by}
 use mathlib.Core.Option.{some}
@@ -9,17 +9,18 @@ use Rattle.seat_sums.specs.Sums.{times, one_if, IsDistinct}
 use Rattle.number_stock.specs.declared.hand.Hand.{Hand}
 
 -- What a seat knows of the limit: it is no less than the one that this seat saw last, and the seat with the right to
--- raise set the present one, so it led where it was joined. Each answered ticket lies below it, and is one of the
--- seat's own, answered once
+-- raise set the present one, so it led where it was joined. Each answered ticket lies below it, also one that was
+-- handed over, and is one of the seat's own, answered once
 pub record Fits (limit : ℕ) (v : Hand) : Type 0 where
   pub seen : v.limit ≤ limit
   pub set : v.raises ≡ true → v.limit ≡ limit
   pub led : v.right_leads ≡ true
   pub below : All (λ t. t < v.limit) v.answered
+  pub low : All (λ t. t < v.limit) v.drawn
   pub own : (t : ℕ) → times t v.answered ≤ times t v.tickets
 
 -- The tickets that the seats have drawn are those below the next one, each once. With the draws that are left they are
--- all draws. One seat may raise the limit
+-- all draws. One seat may raise the limit. What is answered is remembered at one seat
 pub record Kept {S : Type 0} (draws : ℕ) (s : State S Hand) : Type 0 where
   pub next : ℕ
   pub limit : ℕ
@@ -27,14 +28,33 @@ pub record Kept {S : Type 0} (draws : ℕ) (s : State S Hand) : Type 0 where
   pub tickets : (t : ℕ) → sum_by (λ v. times t v.tickets) s.views ≡ one_if (ltb t next)
   pub draws_left : next + sum_by (λ v. v.draws) s.views ≡ draws
   pub one_raises : sum_by (λ v. one_if v.raises) s.views ≡ 1
+  pub remembered : (t : ℕ) → sum_by (λ v. times t v.drawn) s.views ≡ sum_by (λ v. times t v.answered) s.views
   pub each : (seat : ℕ) (v : Hand) → get_elem? s.views seat ≡ some v → Fits limit v
 
 abbrev pub opener : ℕ → ℕ → Hand
 opener draws limit =
-    record { draws = draws; tickets = []; answered = []; limit = limit; looks = 0; raises = true; right_leads = true }
+    record {
+      draws = draws;
+      tickets = [];
+      answered = [];
+      drawn = [];
+      limit = limit;
+      looks = 0;
+      raises = true;
+      right_leads = true;
+    }
 
 abbrev pub spent : Hand
-spent = record { draws = 0; tickets = []; answered = []; limit = 0; looks = 0; raises = false; right_leads = true }
+spent = record {
+  draws = 0;
+  tickets = [];
+  answered = [];
+  drawn = [];
+  limit = 0;
+  looks = 0;
+  raises = false;
+  right_leads = true;
+}
 
 -- one draw is used for the ticket
 abbrev pub drew : ℕ → Hand → Hand
@@ -42,6 +62,7 @@ drew ticket v = record {
   draws = v.draws - 1;
   tickets = v.tickets ++ ticket ∷ [];
   answered = v.answered;
+  drawn = v.drawn;
   limit =
       v.limit;
   looks = v.looks;
@@ -57,6 +78,7 @@ saw ticket limit v =
       tickets = v.tickets;
       answered =
           if ltb ticket limit then v.answered ++ ticket ∷ [] else v.answered;
+      drawn = if ltb ticket limit then v.drawn ++ ticket ∷ [] else v.drawn;
       limit = limit;
       looks = v.looks + 1;
       raises =
@@ -69,6 +91,7 @@ raised limit v = record {
   draws = v.draws;
   tickets = v.tickets;
   answered = v.answered;
+  drawn = v.drawn;
   limit =
       max v.limit limit;
   looks = v.looks;
@@ -83,6 +106,7 @@ kept_of draws v =
       draws = v.draws - draws;
       tickets = v.tickets;
       answered = v.answered;
+      drawn = v.drawn;
       limit = v.limit;
       looks =
           v.looks;
@@ -96,6 +120,7 @@ given_of draws v =
       draws = draws;
       tickets = [];
       answered = [];
+      drawn = [];
       limit = v.limit;
       looks = 0;
       raises = false;
@@ -103,12 +128,26 @@ given_of draws v =
           true;
     }
 
--- what a seat has but for its draws
+-- what a seat keeps that hands over all but its draws: these, and what it remembers
+abbrev pub unused_of : Hand → Hand
+unused_of v = record {
+  draws = v.draws;
+  tickets = [];
+  answered = [];
+  drawn = v.drawn;
+  limit = v.limit;
+  looks = 0;
+  raises = false;
+  right_leads = true;
+}
+
+-- what it hands over
 abbrev pub rest_of : Hand → Hand
 rest_of v = record {
   draws = 0;
   tickets = v.tickets;
   answered = v.answered;
+  drawn = [];
   limit = v.limit;
   looks = v.looks;
   raises =
@@ -126,6 +165,7 @@ both_of v w = record {
   tickets = v.tickets ++ w.tickets;
   answered =
       v.answered ++ w.answered;
+  drawn = v.drawn ++ w.drawn;
   limit = max v.limit w.limit;
   looks = v.looks + w.looks;
   raises =
@@ -143,6 +183,7 @@ pub record IsJoined (v w u : Hand) : Type 0 where
   pub draws : u.draws ≡ v.draws + w.draws
   pub tickets : u.tickets ≡ v.tickets ++ w.tickets
   pub answered : u.answered ≡ v.answered ++ w.answered
+  pub drawn : u.drawn ≡ v.drawn ++ w.drawn
   pub raises : u.raises ≡ (v.raises || w.raises)
   pub second : w.raises ≡ false
   pub owns : OwnsAnswers v × OwnsAnswers w
@@ -153,6 +194,7 @@ parted v u = record {
   draws = v.draws;
   tickets = v.tickets;
   answered = v.answered;
+  drawn = v.drawn;
   limit = u.limit;
   looks = v.looks;
   raises =
@@ -160,12 +202,27 @@ parted v u = record {
   right_leads = true;
 }
 
+-- the seat is as it was, and may know a higher limit
+pub record IsSame (v w : Hand) : Type 0 where
+  pub draws : w.draws ≡ v.draws
+  pub tickets : w.tickets ≡ v.tickets
+  pub answered : w.answered ≡ v.answered
+  pub drawn : w.drawn ≡ v.drawn
+  pub raises : w.raises ≡ v.raises
+  pub limit : v.limit ≤ w.limit
+  pub known : v.raises ≡ true → w.limit ≡ v.limit
+
+-- none of these tickets is there twice, and all lie below the limit
+abbrev pub AreOnce : ℕ → List ℕ → Type 0
+AreOnce limit tickets = IsDistinct tickets × All (λ t. t < limit) tickets
+
 -- the seat was told of a limit
 abbrev pub heard : ℕ → Hand → Hand
 heard limit v = record {
   draws = v.draws;
   tickets = v.tickets;
   answered = v.answered;
+  drawn = v.drawn;
   limit = max v.limit limit;
   looks = v.looks;
   raises =
@@ -200,7 +257,7 @@ module _ {S : Type 0} where
 
   abbrev pub Learns : ℕ → Step S → Me S Hand → ℕ → Me S Hand → Type 0
   Learns draws st m found w = (w ≡ m) × (w.0.draws ≤ draws) × IsDistinct w.0.tickets × IsDistinct w.0.answered
-      × All (λ t. t < w.0.limit) w.0.answered × (w.0.right_leads ≡ true)
+      × All (λ t. t < w.0.limit) w.0.answered × (w.0.right_leads ≡ true) × AreOnce w.0.limit w.0.drawn
 
   abbrev pub Owns : Step S → Me S Hand → ℕ → Me S Hand → Type 0
   Owns st m found w = (w ≡ m) × OwnsAnswers w.0

@@ -1,7 +1,9 @@
 ghost use Rattle.std.specs.Prelude.{◌≡◌, ◌+◌, ◌^◌, ◌<◌};
 
 use crate::answer::{Drawn, Dry};
-use crate::hand::{Cuts, Drawing, Draws, Glues, Hand, Learns, Looks, Portion, Raises, Told};
+use crate::hand::{
+    Cuts, Drawing, Draws, Glues, Hand, Learns, Looks, Portion, Raises, Told, Yields,
+};
 use crate::parting::{Joined, Owns, Parts};
 use crate::seat::StockSeat;
 use atomic_table::{Seat, Table};
@@ -68,7 +70,8 @@ impl Stock {
 impl Stock {
     ghost use Rattle.std.specs.Prelude.{ℕ, ◌≤◌, true, [], All, IfErr};
     ghost use Rattle.seat_sums.specs.Sums.{IsDistinct};
-    ghost use Rattle.number_stock.specs.Rule.{drew, raised, kept_of, given_of, both_of, IsNew, IsKnown, IsUnanswered};
+    ghost use Rattle.number_stock.specs.Rule.{drew, raised, kept_of, given_of, both_of, AreOnce, IsNew, IsKnown};
+    ghost use Rattle.number_stock.specs.Rule.{IsUnanswered};
     ghost use Rattle.number_stock.specs.Seats.{hand, base_of, ticket_of, IsSeatOf, IsLook};
 
     // Loads the limit once, for a ticket that this seat has and that was not answered.
@@ -79,6 +82,7 @@ impl Stock {
         ensures own { IsSeatOf self.now seat.new }
         ensures looked { IsLook (base_of self.now) ticket (hand seat.old) (hand seat.new) result }
         ensures dry { IfErr result (λ e. IsUnanswered (ticket_of e) (hand seat.new)) }
+        ensures fits { IfErr result (λ e. base_of self.now + ticket_of e < 2 ^ 64) }
     {
         let limit = self.table.shared.load::<Looks<N>>(&mut seat.seat, LIMIT);
         if ticket < limit {
@@ -111,6 +115,7 @@ impl Stock {
         ensures drawn { (ticket : ℕ) × IsNew ticket (hand seat.old)
             × IsLook (base_of self.now) ticket (drew ticket (hand seat.old)) (hand seat.new) result }
         ensures dry { IfErr result (λ e. IsUnanswered (ticket_of e) (hand seat.new)) }
+        ensures fits { IfErr result (λ e. base_of self.now + ticket_of e < 2 ^ 64) }
     {
         let ticket = self.fetch(seat);
         self.answer::<Brand>(seat, ticket)
@@ -124,6 +129,7 @@ impl Stock {
         ensures own { IsSeatOf self.now seat.new }
         ensures answered { IsLook (base_of self.now) (ticket_of dry) (hand seat.old) (hand seat.new) result }
         ensures dry { IfErr result (λ e. IsUnanswered (ticket_of e) (hand seat.new)) }
+        ensures fits { IfErr result (λ e. base_of self.now + ticket_of e < 2 ^ 64) }
     {
         let Dry { ticket } = dry;
         self.answer::<Brand>(seat, ticket)
@@ -153,8 +159,18 @@ impl Stock {
         ensures own { IsSeatOf self.now result.0 × IsSeatOf self.now result.1 }
         ensures cut { (hand result.0 ≡ kept_of draws (hand seat)) × (hand result.1 ≡ given_of draws (hand seat)) }
     {
-        let given = self.cut::<Brand>(&mut seat, draws);
+        let given = self.cut_off(&mut seat, draws);
         (seat, given)
+    }
+
+    /// Cuts off a seat that has the stated draws, no ticket and no right to raise. Takes no memory.
+    pub fn cut_off(&self, seat: &mut StockSeat, draws: u32) -> StockSeat
+        requires own { IsSeatOf self.now seat.old }
+        requires enough { draws ≤ (hand seat.old).draws }
+        ensures own { IsSeatOf self.now seat.new × IsSeatOf self.now result }
+        ensures cut { (hand seat.new ≡ kept_of draws (hand seat.old)) × (hand result ≡ given_of draws (hand seat.old)) }
+    {
+        self.cut::<Brand>(seat, draws)
     }
 
     // Takes another seat in, and learns what all tickets together say of both.
@@ -166,7 +182,7 @@ impl Stock {
         ensures both { seat.new.me.0 ≡ both_of seat.old.me.0 other.me.0 }
         ensures learned { (seat.new.me.0.draws < 2 ^ 32) × IsDistinct seat.new.me.0.tickets
             × IsDistinct seat.new.me.0.answered × All (λ t. t < seat.new.me.0.limit) seat.new.me.0.answered
-            × (seat.new.me.0.right_leads ≡ true) }
+            × (seat.new.me.0.right_leads ≡ true) × AreOnce seat.new.me.0.limit seat.new.me.0.drawn }
     {
         self.table.shared.join_seat::<Glues>(seat, other);
         self.table.shared.load::<Learns<N>>(seat, NEXT_TICKET);
@@ -182,6 +198,7 @@ impl Stock {
         ensures limit { IsKnown (hand result).limit (hand a) × IsKnown (hand result).limit (hand b) }
         ensures distinct { IsDistinct (hand result).tickets × IsDistinct (hand result).answered }
         ensures below { All (λ t. t < (hand result).limit) (hand result).answered }
+        ensures drawn { AreOnce (hand result).limit (hand result).drawn }
     {
         let StockSeat { left, mut seat } = a;
         let StockSeat {
@@ -199,7 +216,9 @@ impl Stock {
 impl Stock {
     ghost use Rattle.std.specs.Prelude.{true, All};
     ghost use Rattle.seat_sums.specs.Sums.{IsDistinct};
-    ghost use Rattle.number_stock.specs.Rule.{both_of, given_of, heard, parted, rest_of, IsJoined, IsKnown, OwnsAnswers};
+    ghost use Rattle.std.specs.Prelude.{◌++◌, false};
+    ghost use Rattle.number_stock.specs.Rule.{both_of, heard, parted, rest_of, unused_of, AreOnce, IsJoined, IsKnown};
+    ghost use Rattle.number_stock.specs.Rule.{IsSame, OwnsAnswers};
     ghost use Rattle.number_stock.specs.Seats.{hand, IsSeatOf};
 
     /// The seat is as it was, and is known to have answered none but tickets of its own. Takes no memory.
@@ -244,14 +263,16 @@ impl Stock {
         (seat, given)
     }
 
-    // Takes another seat in, and learns what all tickets together say of both.
-    fn absorb(&self, seat: &mut StockSeat, other: StockSeat)
+    /// Takes another seat in, with all that it has, as `join` does. Takes no memory.
+    pub fn absorb(&self, seat: &mut StockSeat, other: StockSeat)
         requires own { IsSeatOf self.now seat.old × IsSeatOf self.now other }
         ensures own { IsSeatOf self.now seat.new }
         ensures both { hand seat.new ≡ both_of (hand seat.old) (hand other) }
         ensures distinct { IsDistinct (hand seat.new).tickets × IsDistinct (hand seat.new).answered }
         ensures below { All (λ t. t < (hand seat.new).limit) (hand seat.new).answered }
         ensures leads { (hand seat.new).right_leads ≡ true }
+        ensures limit { IsKnown (hand seat.new).limit (hand seat.old) × IsKnown (hand seat.new).limit (hand other) }
+        ensures drawn { AreOnce (hand seat.new).limit (hand seat.new).drawn }
     {
         let StockSeat { left, seat: other } = other;
         self.glue::<Brand>(&mut seat.seat, other);
@@ -269,12 +290,24 @@ impl Stock {
         self.absorb(to, given);
     }
 
-    /// A seat keeps its draws, and hands over all else that it has, its tickets with their answers. The other one knows
-    /// these distinct then, and below its limit. Takes no memory.
+    // Cuts off a seat that has the draws, and remembers what was answered. All else stays.
+    fn cut_unused(&self, seat: &mut StockSeat) -> StockSeat
+        requires own { IsSeatOf self.now seat.old }
+        ensures own { IsSeatOf self.now seat.new × IsSeatOf self.now result }
+        ensures cut { (hand seat.new ≡ rest_of (hand seat.old)) × (hand result ≡ unused_of (hand seat.old)) }
+    {
+        let unused = self.table.shared.split_seat::<Yields>(&mut seat.seat);
+        let left = seat.left;
+        seat.left = 0;
+        StockSeat { left, seat: unused }
+    }
+
+    /// A seat keeps its draws, and hands over all else that it has, its tickets with their answers; it remembers these.
+    /// The other one knows the tickets distinct then, and below its limit. Takes no memory.
     pub fn hand_over(&self, seat: &mut StockSeat, to: &mut StockSeat)
         requires own { IsSeatOf self.now seat.old × IsSeatOf self.now to.old }
         ensures own { IsSeatOf self.now seat.new × IsSeatOf self.now to.new }
-        ensures kept { hand seat.new ≡ given_of (hand seat.old).draws (hand seat.old) }
+        ensures kept { hand seat.new ≡ unused_of (hand seat.old) }
         ensures handed { hand to.new ≡ both_of (hand to.old) (rest_of (hand seat.old)) }
         ensures owns { OwnsAnswers (hand to.old) × OwnsAnswers (rest_of (hand seat.old)) }
         ensures limit { IsKnown (hand to.new).limit (hand to.old) }
@@ -283,8 +316,7 @@ impl Stock {
     {
         self.learn(seat);
         self.learn(to);
-        let draws = seat.left;
-        let unused = self.cut::<Brand>(seat, draws);
+        let unused = self.cut_unused(seat);
         let rest = std::mem::replace(seat, unused);
         self.absorb(to, rest);
     }
@@ -301,5 +333,32 @@ impl Stock {
     {
         let rest = self.sever::<N>(from, 0);
         self.absorb(seat, rest);
+    }
+
+    // The same of a seat without the right to raise, by hands that are told.
+    fn compare_as<N: Joined>(&self, right: &mut StockSeat, seat: &mut StockSeat)
+        requires own { IsSeatOf self.now right.old × IsSeatOf self.now seat.old }
+        requires told { (N.first ≡ hand right.old) × (N.second ≡ rest_of (hand seat.old)) }
+        requires second { (hand seat.old).raises ≡ false }
+        ensures own { IsSeatOf self.now right.new × IsSeatOf self.now seat.new }
+        ensures same { IsSame (hand right.old) (hand right.new) × IsSame (hand seat.old) (hand seat.new) }
+        ensures once { (hand right.old).raises ≡ true
+            → AreOnce (hand right.old).limit ((hand right.old).answered ++ (hand seat.old).answered) }
+    {
+        self.hand_over(seat, right);
+        self.take_back::<N>(seat, right);
+    }
+
+    /// Learns that the answered tickets of two seats, of which the first has the right to raise, are distinct and below
+    /// its limit. Both have all that they had. Takes no memory.
+    pub fn compare(&self, right: &mut StockSeat, seat: &mut StockSeat)
+        requires own { IsSeatOf self.now right.old × IsSeatOf self.now seat.old }
+        requires second { (hand seat.old).raises ≡ false }
+        ensures own { IsSeatOf self.now right.new × IsSeatOf self.now seat.new }
+        ensures same { IsSame (hand right.old) (hand right.new) × IsSame (hand seat.old) (hand seat.new) }
+        ensures once { (hand right.old).raises ≡ true
+            → AreOnce (hand right.old).limit ((hand right.old).answered ++ (hand seat.old).answered) }
+    {
+        self.compare_as::<Brand>(right, seat);
     }
 }

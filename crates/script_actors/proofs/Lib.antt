@@ -1,2 +1,4 @@
-pub mod ActorLines
 pub mod ReplyTexts
+pub mod Numbers
+pub mod LineSteps
+pub mod ActorLines

@@ -184,6 +184,7 @@ pub(crate) fn run<R: Threads + Wait + Sync>(
         why,
         site,
         past,
+        ..
     } = ended;
     let mut rest = [0; 32];
     Ok(Left {

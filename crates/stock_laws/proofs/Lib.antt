@@ -5,3 +5,4 @@ mod Steps
 mod Shares
 mod Opening
 mod Reserving
+mod Answered

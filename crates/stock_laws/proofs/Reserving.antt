@@ -21,10 +21,11 @@ use Rattle.hall_model.specs.Sessions.{session_at}
 use Rattle.hall_model.specs.State.{State}
 use Rattle.hall_model.specs.Step.{Found, Verdict, Refuses, Leaves, call_verdict, called, own_verdict, reserving, unavailable, unless_refused}
 use Rattle.hall_model.specs.declared.command.Command.TheVariants as command
+use Rattle.hall_model.specs.declared.command.Reply.{Reply}
 use Rattle.hall_model.specs.declared.command.Reply.TheVariants as reply
 use Rattle.hall_model.specs.declared.command.Session.{Session}
 use Rattle.stock_laws.proofs.Levels.{raised_own, raised_reached}
-use Rattle.stock_laws.specs.Stocked.{HasReached}
+use Rattle.stock_laws.specs.Stocked.{HasReached, answers_reservation}
 
 not_past : (m n : ℕ) → nat_lt m n ≡ false → n ≤ m
 not_past m n h = grind (arith, nat_tests)
@@ -42,7 +43,7 @@ record OfReserve (Q : Verdict → Type 0) (s : State) (object nr : List ℕ) (up
       → Q (Leaves (record s { stored = raised_to (present s.stored.levels r.interval) upto s.stored })
       (reply.Level (block_level (present s.stored.levels r.interval) upto)))
 
-one_of : (Q : Verdict → Type 0) (b : Bool) (v w : Verdict) → (b ≡ true → Q v) → (b ≡ false → Q w) → Q (if b then v else w)
+pub one_of : (Q : Verdict → Type 0) (b : Bool) (v w : Verdict) → (b ≡ true → Q v) → (b ≡ false → Q w) → Q (if b then v else w)
 one_of Q true v w p q = p refl
 one_of Q false v w p q = q refl
 
@@ -121,3 +122,19 @@ pub level_reserved : (s t : State) (line : ℕ) (session : List ℕ) (i : Interv
     → IsStep s t line (command.Reserve session i.object i.nr upto) (reply.Level level) → HasReached s.stored.levels t.stored.levels i upto level
 level_reserved s t line session i upto level kept among made =
     subst (TellsLevel s kept.steady i upto level among) (sym made.same) (step_level s kept.steady i upto level among made.outcome line session) refl
+
+-- ---- all others are refused
+
+abbrev Answers : Served → Type 0
+Answers r = answers_reservation r.reply ≡ true
+
+pub reservation_answers : (s t : State) (line : ℕ) (session object nr : List ℕ) (upto : ℕ) (r : Reply)
+    → IsStep s t line (command.Reserve session object nr upto) r → answers_reservation r ≡ true
+reservation_answers s t line session object nr upto r made =
+    let c = command.Reserve session object nr upto in
+    let o = made.outcome in
+    let each : OfReserve (λ v. Answers (judged s v)) s object nr upto = record { refuses = λ x. refl; reserves = λ x can. refl } in
+    let k : Answers (served o s c) =
+    by_event Answers o s c (λ lost x k. k) (λ found. by_reserve (λ v. Answers (judged s v)) s object nr upto each found session)
+    refl refl (λ reading. refl) (λ reading. refl) (λ read x. refl) in
+    subst Answers (sym made.same) (by_noting Answers line c (takes_flight o) (served o s c) k k)

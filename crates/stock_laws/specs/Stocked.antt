@@ -123,3 +123,16 @@ pub record HasReached (before after : Levels) (i : Interval) (upto level : ℕ) 
   pub reached : upto ≤ level
   pub stands : level_in after i ≡ level
   pub blocks : level ≡ block_level (present before i) upto
+
+-- a reservation is told a level, or refused
+abbrev pub answers_reservation : Reply → Bool
+answers_reservation (reply.Level level) = true
+answers_reservation (reply.Refused r) = true
+answers_reservation r = false
+
+-- a commit is done, or its unit is recorded, or it is refused
+abbrev pub answers_commit : Reply → Bool
+answers_commit reply.Done = true
+answers_commit (reply.Unit unit) = true
+answers_commit (reply.Refused r) = true
+answers_commit r = false

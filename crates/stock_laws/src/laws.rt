@@ -7,7 +7,7 @@ ghost use Rattle.hall_model.specs.Kept.{IsKept};
 ghost use Rattle.hall_model.specs.State.{State, opened};
 ghost use Rattle.hall_model.specs.Stocks.{IsStockIn};
 ghost use Rattle.hall_model.specs.declared.command.Command.{Command};
-ghost use Rattle.hall_model.specs.declared.command.Command.TheVariants.{Reserve};
+ghost use Rattle.hall_model.specs.declared.command.Command.TheVariants.{Commit, Reserve};
 ghost use Rattle.hall_model.specs.declared.command.Reply.{Reply};
 ghost use Rattle.hall_model.specs.declared.command.Reply.TheVariants.{Level};
 ghost use Rattle.ledger_steps.specs.Drawn.{drawn_of};
@@ -18,7 +18,7 @@ ghost use Rattle.number_ranges.specs.declared.interval.Interval.{Interval};
 ghost use Rattle.store_reading.specs.Good.{IsSound};
 ghost use Rattle.update_records.specs.Ledger.{Ledger};
 ghost use Rattle.stock_laws.specs.Stocked.{HasReached, IsAmong, IsOfLots, IsShare, IsStocked, Lot, Respects};
-ghost use Rattle.stock_laws.specs.Stocked.{first_lot, handing, is_undone, limited};
+ghost use Rattle.stock_laws.specs.Stocked.{answers_commit, answers_reservation, first_lot, handing, is_undone, limited};
 
 /// A start has a lot for each interval with a buffer. Each call leaves it that draws none of its numbers by the hall,
 /// and whose own stock was handed over before; of a call that was refused nothing is asked unless the store failed.
@@ -45,12 +45,16 @@ pub fn stocks_may_be_committed()
         → Respects (handing share.tickets b) (OfSession session (Commits parts stock)) }
     ensures none { (b : Lot) (stock : List Num) (session : List ℕ) (parts : Parts) → drawn_of b.interval stock ≡ 0
         → Respects b (OfSession session (Commits parts stock)) }
+    ensures answers { (s t : State) (line : ℕ) (session : List ℕ) (parts : Parts) (stock : List Num) (r : Reply)
+        → IsStep s t line (Commit session parts stock) r → answers_commit r ≡ true }
 {}
 
 /// A reservation that is answered with a level has raised the interval's level to it, which reaches the number that was
-/// asked for.
+/// asked for. All others are refused.
 pub fn levels_are_reserved()
     ensures reserved { (s t : State) (line : ℕ) (session : List ℕ) (i : Interval) (upto level : ℕ) → IsKept s
         → Contains (intervals_of s.ranges) i → IsStep s t line (Reserve session i.object i.nr upto) (Level level)
         → HasReached s.stored.levels t.stored.levels i upto level }
+    ensures answers { (s t : State) (line : ℕ) (session object nr : List ℕ) (upto : ℕ) (r : Reply)
+        → IsStep s t line (Reserve session object nr upto) r → answers_reservation r ≡ true }
 {}

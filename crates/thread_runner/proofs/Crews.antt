@@ -1,43 +1,49 @@
 -- Actors that are hired one behind another, and the callers of a run.
-use Rattle.std.proofs.Common.{◌≡◌, ℕ, zero, suc, ◌+◌, ◌<◌, ◌≤◌, List, [], ◌∷◌, ◌++◌, length, map, take, get_or, refl, sym, ap, ◌∙◌, subst, arith, append_assoc, Bool, true, false}
-use Rattle.std.proofs.lemmas.List.{take_more}
-use Rattle.std.specs.Prelude.{◌||◌}
+use Rattle.std.proofs.Common.{◌≡◌, ℕ, zero, suc, ◌+◌, ◌<◌, ◌≤◌, List, [], ◌∷◌, ◌++◌, length, map, refl, sym, ap, ◌∙◌, subst, arith, append_assoc, Bool, true, false}
+use Rattle.std.specs.Prelude.{◌||◌, slice_index_or}
 use Rattle.std.specs.List.{AllByRecursion, list_any}
 use Rattle.hall_model.specs.declared.command.PastEntry.{PastEntry}
 use Rattle.hall_model.specs.declared.command.Who.{Who}
 use Rattle.hall_model.specs.declared.command.Who.TheVariants as caller
 use Rattle.script_actors.specs.declared.line.NumberedLine.{NumberedLine}
+use Rattle.actor_threads.specs.Working.{IsFresh}
 use Rattle.actor_threads.specs.declared.actor.Actor.{Actor}
 use Rattle.caller_laws.specs.Callers.{actors_of, threads_of, workers_to}
-use Rattle.turn_desks.specs.declared.turn_desk.LockName.{Ghosts as Names}
+use Rattle.number_ranges.specs.declared.interval.Interval.{Interval}
+use Rattle.turn_desks.specs.Stocks.{StockFact}
+use Rattle.turn_desks.specs.declared.names.LockName.{Ghosts as Names}
+use Rattle.turn_desks.specs.declared.serving.Serving.{Ghosts as Stocks}
 use Rattle.turn_lock.specs.declared.history.History.{Ghosts}
 use Rattle.thread_runner.specs.Writing.{is_worker}
 use Rattle.whole_script.specs.Lines.{names_in}
 use Rattle.thread_runner.specs.Acting.{AreSmall, HasWorker, IsSmall}
 use Rattle.thread_runner.specs.Hiring.{AreHired, IsHired}
 
--- one more of a list
-pub one_more : {X : Type 0} (xs : List X) (i : ℕ) (x : X) → i < length xs → x ≡ get_or xs i x → take (i + 1) xs ≡ take i xs ++ x ∷ []
-one_more xs i x lt is = take_more xs i x lt ∙ ap (λ y. take i xs ++ y ∷ []) (sym is)
-
-module _ {N S R G : Type 0} {n : Names N} {g : Ghosts S PastEntry} where
-  hired_last : (ws : List Who) (actors : List (Actor N S R G n g)) (w : Who) (a : Actor N S R G n g) → AreHired ws actors → IsHired w a
-      → AreHired (ws ++ w ∷ []) (actors ++ a ∷ [])
-  hired_last [] actors w a h k = subst (λ l. AreHired (w ∷ []) (l ++ a ∷ [])) (sym h) (k, refl)
+module _ {N S R G : Type 0} {n : Names N} {s : Stocks S} {g : Ghosts S PastEntry} (stocks : List StockFact) (intervals : List Interval)
+    (lines : List NumberedLine) where
+  -- an actor of one caller more
+  pub hired_last : (ws : List Who) (actors : List (Actor N S R G n s g)) (w : Who) (a : Actor N S R G n s g) → AreHired stocks intervals lines ws actors
+      → IsHired stocks intervals lines w a → AreHired stocks intervals lines (ws ++ w ∷ []) (actors ++ a ∷ [])
+  hired_last [] actors w a h k = subst (λ l. AreHired stocks intervals lines (w ∷ []) (l ++ a ∷ [])) (sym h) (k, refl)
   hired_last (x ∷ ws) [] w a h k = absurd h
   hired_last (x ∷ ws) (y ∷ actors) w a h k = (h.0, hired_last ws actors w a h.1 k)
 
-  -- an actor of the next caller
-  pub hired_more : (ws : List Who) (i : ℕ) (actors now : List (Actor N S R G n g)) (w : Who) (a : Actor N S R G n g) → i < length ws → w ≡ get_or ws i w
-      → AreHired (take i ws) actors → IsHired w a → now ≡ actors ++ a ∷ [] → AreHired (take (i + 1) ws) now
-  hired_more ws i actors now w a lt is h k e =
-      subst (AreHired (take (i + 1) ws)) (sym e)
-      (subst (λ l. AreHired l (actors ++ a ∷ [])) (sym (one_more ws i w lt is)) (hired_last (take i ws) actors w a h k))
-
-  pub hired_length : (ws : List Who) (actors : List (Actor N S R G n g)) → AreHired ws actors → length actors ≡ length ws
+  pub hired_length : (ws : List Who) (actors : List (Actor N S R G n s g)) → AreHired stocks intervals lines ws actors → length actors ≡ length ws
   hired_length [] actors h = ap length h
   hired_length (w ∷ ws) [] h = absurd h
   hired_length (w ∷ ws) (a ∷ actors) h = ap suc (hired_length ws actors h.1)
+
+  -- none of them did anything
+  pub hired_fresh : (ws : List Who) (actors : List (Actor N S R G n s g)) → AreHired stocks intervals lines ws actors
+      → (i : ℕ) (d : Actor N S R G n s g) → i < length actors → IsFresh stocks intervals lines (slice_index_or actors i d)
+  hired_fresh [] actors h i d lt = let none : length actors ≡ 0 = ap length h in absurd (omega (arith, lt, none))
+  hired_fresh (w ∷ ws) [] h i d lt = absurd h
+  hired_fresh (w ∷ ws) (a ∷ actors) h zero d lt = h.0.fresh
+  hired_fresh (w ∷ ws) (a ∷ actors) h (suc i) d lt = hired_fresh ws actors h.1 i d (omega (arith, lt))
+
+pub whos_length : {X Y : Type 0} (f : X → Y) (xs : List X) → length (map f xs) ≡ length xs
+whos_length f [] = refl
+whos_length f (x ∷ xs) = ap suc (whos_length f xs)
 
 -- ---- the callers of a run
 

@@ -4,7 +4,7 @@ use Rattle.std.specs.List.{AllByRecursion}
 use Rattle.hall_model.specs.Recall.{AreModelAnswers, Made, calls_of}
 use Rattle.hall_model.specs.State.{State}
 use Rattle.hall_model.specs.declared.command.PastEntry.{PastEntry}
-use Rattle.lock_objects.specs.Objects.{Object}
+use Rattle.script_actors.specs.Actors.{Land}
 use Rattle.script_actors.specs.declared.line.NumberedLine.{NumberedLine}
 use Rattle.actor_threads.specs.declared.actor.Deed.{Deed}
 use Rattle.caller_laws.specs.Callers.{AreTheirs}
@@ -43,22 +43,22 @@ pub all_later : {X : Type 0} (P Q : X → Type 0) → ((x : X) → P x → Q x) 
 all_later P Q f [] h = tt
 all_later P Q f (x ∷ xs) h = (f x h.0, all_later P Q f xs h.1)
 
-module _ (objects : List Object) (lines : List NumberedLine) (past : List PastEntry) where
-  kept_did : (t : Thread) (d : Deed) → IsKeptOf past t d → Did objects lines past t.who t.left t.now.full_at → DidDeed objects lines past d
+module _ (land : Land) (lines : List NumberedLine) (past : List PastEntry) where
+  kept_did : (t : Thread) (d : Deed) → IsKeptOf past t d → Did land lines past t.who t.left t.now.full_at → DidDeed land lines past d
   kept_did t d k h = record {
     did =
-        subst (λ f. Did objects lines past d.who (left_of d) f) (sym k.full_at)
-        (subst (λ l. Did objects lines past d.who l t.now.full_at) (sym k.left)
-        (subst (λ w. Did objects lines past w t.left t.now.full_at) (sym k.who) h));
+        subst (λ f. Did land lines past d.who (left_of d) f) (sym k.full_at)
+        (subst (λ l. Did land lines past d.who l t.now.full_at) (sym k.left)
+        (subst (λ w. Did land lines past w t.left t.now.full_at) (sym k.who) h));
     long = k.long;
   }
 
   -- of threads whose calls the history has, these are the deeds
   pub done_by : (threads : List Thread) (deeds : List Deed) → AreKept past threads deeds
-      → AllByRecursion (λ (t : Thread). Did objects lines past t.who t.left t.now.full_at) threads → AreDone objects lines (callers_in threads) past deeds
+      → AllByRecursion (λ (t : Thread). Did land lines past t.who t.left t.now.full_at) threads → AreDone land lines (callers_in threads) past deeds
   done_by [] [] kept all = record { who = refl; did = tt }
   done_by [] (d ∷ ds) kept all = absurd kept
   done_by (t ∷ ts) [] kept all = absurd kept
   done_by (t ∷ ts) (d ∷ ds) kept all =
-      let rest : AreDone objects lines (callers_in ts) past ds = done_by ts ds kept.1 all.1 in
+      let rest : AreDone land lines (callers_in ts) past ds = done_by ts ds kept.1 all.1 in
       record { who = λ i. kept.0.who i ∷ rest.who i; did = (kept_did t d kept.0 all.0, rest.did) }

@@ -11,4 +11,14 @@ pub mod Acted
 pub mod Refilled
 pub mod Stood
 pub mod Shown
+pub mod Called
+pub mod Opening
+pub mod Begun
+pub mod Within
+pub mod Absorbed
+pub mod Room
+pub mod Equipped
+pub mod Counted
+pub mod Joined
+pub mod Seated
 pub mod Popped

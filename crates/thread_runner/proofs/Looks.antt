@@ -9,7 +9,7 @@ use Rattle.hall_model.specs.State.{State}
 use Rattle.hall_model.specs.declared.command.PastEntry.{PastEntry}
 use Rattle.hall_model.specs.declared.command.Who.{Who}
 use Rattle.hall_model.specs.declared.command.Who.TheVariants as caller
-use Rattle.lock_objects.specs.Objects.{Object}
+use Rattle.script_actors.specs.Actors.{Land}
 use Rattle.order_workers.specs.Orders.{DidWork, Leads, Made, Stays, Then}
 use Rattle.script_actors.specs.Doers.{is_same}
 use Rattle.script_actors.specs.declared.line.NumberedLine.{NumberedLine}
@@ -92,58 +92,58 @@ Goes = (w : ℕ) (rests : Bool) (k l : Looked) → AreTheirs l.past → WorkerDi
     → WorkerDid l.past w rests l.full_at
 
 abbrev pub OthersStay : Type 0
-OthersStay = (objects : List Object) (lines : List NumberedLine) (w : ℕ) (rests : Bool) (k l : Looked) (who : Who) (left : Left) (full_at : Option ℕ)
-    → AreTheirs l.past → DidWork LeadsAlone w rests k l → is_same (caller.Worker w) who ≡ false → Did objects lines k.past who left full_at
-    → Did objects lines l.past who left full_at
+OthersStay = (land : Land) (lines : List NumberedLine) (w : ℕ) (rests : Bool) (k l : Looked) (who : Who) (left : Left) (full_at : Option ℕ)
+    → AreTheirs l.past → DidWork LeadsAlone w rests k l → is_same (caller.Worker w) who ≡ false → Did land lines k.past who left full_at
+    → Did land lines l.past who left full_at
 
 and_right : (a b : Bool) → (a && b) ≡ true → b ≡ true
 and_right true b h = h
 and_right false b h = absurd (true≢false (sym h))
 
-module _ (goes : Goes) (others : OthersStay) (objects : List Object) (lines : List NumberedLine) (s t : State) (theirs : AreTheirs t.past) where
-  stays : (d now x : Deed) (l : LooksOnce s t d now) → IsApart l.worker x → DidDeed objects lines s.past x → DidDeed objects lines t.past x
+module _ (goes : Goes) (others : OthersStay) (land : Land) (lines : List NumberedLine) (s t : State) (theirs : AreTheirs t.past) where
+  stays : (d now x : Deed) (l : LooksOnce s t d now) → IsApart l.worker x → DidDeed land lines s.past x → DidDeed land lines t.past x
   stays d now x l far h = record {
-    did = others objects lines l.worker now.rests (looked (stood s d)) (looked (stood t now)) x.who (left_of x) x.full_at theirs
+    did = others land lines l.worker now.rests (looked (stood s d)) (looked (stood t now)) x.who (left_of x) x.full_at theirs
         (alone l.worker now.rests (stood s d) (stood t now) l.work) far h.did;
     long = λ yes. longer s.past t.past (grown (stood s d) (stood t now) l.work.0 l.work.1) (h.long yes);
   }
 
   all_stay : (d now : Deed) (l : LooksOnce s t d now) (xs : List Deed) → AllByRecursion (IsApart l.worker) xs
-      → AllByRecursion (DidDeed objects lines s.past) xs → AllByRecursion (DidDeed objects lines t.past) xs
+      → AllByRecursion (DidDeed land lines s.past) xs → AllByRecursion (DidDeed land lines t.past) xs
   all_stay d now l [] far h = tt
   all_stay d now l (x ∷ xs) far h = (stays d now x l far.0 h.0, all_stay d now l xs far.1 h.1)
 
-  looked_did : (d now : Deed) (l : LooksOnce s t d now) → is_resting d ≡ true → DidDeed objects lines s.past d → DidDeed objects lines t.past now
+  looked_did : (d now : Deed) (l : LooksOnce s t d now) → is_resting d ≡ true → DidDeed land lines s.past d → DidDeed land lines t.past now
   looked_did d now l rested h =
-      let was : WorkerDid s.past l.worker d.rests d.full_at = subst (λ w. Did objects lines s.past w (left_of d) d.full_at) l.who h.did in
+      let was : WorkerDid s.past l.worker d.rests d.full_at = subst (λ w. Did land lines s.past w (left_of d) d.full_at) l.who h.did in
       let rests : d.rests ≡ true = and_right (is_worker d.who) d.rests rested in
       let at_rest : WorkerDid s.past l.worker true d.full_at = subst (λ b. WorkerDid s.past l.worker b d.full_at) rests was in
       let is : WorkerDid t.past l.worker now.rests now.full_at =
       goes l.worker now.rests (looked (stood s d)) (looked (stood t now)) theirs at_rest (alone l.worker now.rests (stood s d) (stood t now) l.work) in
       record {
-        did = subst (λ w. Did objects lines t.past w (left_of now) now.full_at) (sym (l.same ∙ l.who)) is;
+        did = subst (λ w. Did land lines t.past w (left_of now) now.full_at) (sym (l.same ∙ l.who)) is;
         long = l.long;
       }
 
-  pub done_behind : (callers : List Who) (deeds now : List Deed) → AreDistinct callers → OneLooks s t deeds now → AreDone objects lines callers s.past deeds
-      → AreDone objects lines callers t.past now
+  pub done_behind : (callers : List Who) (deeds now : List Deed) → AreDistinct callers → OneLooks s t deeds now → AreDone land lines callers s.past deeds
+      → AreDone land lines callers t.past now
   done_behind callers deeds now distinct o done =
       let d : Deed = o.deed in
       let l : LooksOnce s t o.deed o.deed_now = o.looks in
       let apart : AreDistinct (who_in (o.front ++ o.deed ∷ o.back)) = subst AreDistinct (sym done.who ∙ ap who_in o.was) distinct in
-      let all : AllByRecursion (DidDeed objects lines s.past) (o.front ++ o.deed ∷ o.back) =
-      subst (AllByRecursion (DidDeed objects lines s.past)) o.was done.did in
-      let behind : AllByRecursion (DidDeed objects lines s.past) (o.deed ∷ o.back) = all_back (DidDeed objects lines s.past) o.front (o.deed ∷ o.back) all in
+      let all : AllByRecursion (DidDeed land lines s.past) (o.front ++ o.deed ∷ o.back) =
+      subst (AllByRecursion (DidDeed land lines s.past)) o.was done.did in
+      let behind : AllByRecursion (DidDeed land lines s.past) (o.deed ∷ o.back) = all_back (DidDeed land lines s.past) o.front (o.deed ∷ o.back) all in
       record {
         who =
             ap who_in o.is ∙ map-append (λ (x : Deed). x.who) o.front (o.deed_now ∷ o.back)
             ∙ (λ i. who_in o.front ++ l.same i ∷ who_in o.back)
             ∙ sym (map-append (λ (x : Deed). x.who) o.front (o.deed ∷ o.back)) ∙ sym (ap who_in o.was) ∙ done.who;
         did =
-            subst (AllByRecursion (DidDeed objects lines t.past)) (sym o.is)
-            (all_append (DidDeed objects lines t.past) o.front (o.deed_now ∷ o.back)
+            subst (AllByRecursion (DidDeed land lines t.past)) (sym o.is)
+            (all_append (DidDeed land lines t.past) o.front (o.deed_now ∷ o.back)
             (all_stay o.deed o.deed_now l o.front (apart_front l.worker o.front o.back o.deed l.who apart)
-            (all_front (DidDeed objects lines s.past) o.front (o.deed ∷ o.back) all)) (
+            (all_front (DidDeed land lines s.past) o.front (o.deed ∷ o.back) all)) (
               looked_did o.deed o.deed_now l o.rested behind.0,
               all_stay o.deed o.deed_now l o.back
                   (apart_back l.worker o.front o.back o.deed l.who apart) behind.1,

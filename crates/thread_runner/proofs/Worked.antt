@@ -8,7 +8,7 @@ use Rattle.hall_model.specs.State.{State}
 use Rattle.hall_model.specs.declared.command.PastEntry.{PastEntry}
 use Rattle.hall_model.specs.declared.command.Who.{Who}
 use Rattle.hall_model.specs.declared.command.Who.TheVariants as caller
-use Rattle.lock_objects.specs.Objects.{Object}
+use Rattle.script_actors.specs.Actors.{Land}
 use Rattle.order_laws.specs.Behind.{HasNoTrouble, IsFresh, wants}
 use Rattle.order_laws.specs.Resting.{NoneWaits}
 use Rattle.order_workers.specs.Orders.{Rests, Stops}
@@ -76,18 +76,18 @@ none_of (Some x) h = absurd (true≢false h)
 abbrev who_in : List Deed → List Who
 who_in deeds = map (λ (d : Deed). d.who) deeds
 
-module _ (rest_law : RestsLaw) (objects : List Object) (lines : List NumberedLine) (first : State) (made : List Made) (past : List PastEntry)
+module _ (rest_law : RestsLaw) (land : Land) (lines : List NumberedLine) (first : State) (made : List Made) (past : List PastEntry)
     (is : past ≡ calls_of made) (well : WentWell first made) (theirs : AreTheirs past) where
-  worker_did : (d : Deed) (w : ℕ) → d.who ≡ caller.Worker w → is_some d.full_at ≡ false → DidDeed objects lines past d → WorkerDid past w d.rests None
+  worker_did : (d : Deed) (w : ℕ) → d.who ≡ caller.Worker w → is_some d.full_at ≡ false → DidDeed land lines past d → WorkerDid past w d.rests None
   worker_did d w e off h =
-      subst (λ f. WorkerDid past w d.rests f) (none_of d.full_at off) (subst (λ x. Did objects lines past x (left_of d) d.full_at) e h.did)
+      subst (λ f. WorkerDid past w d.rests f) (none_of d.full_at off) (subst (λ x. Did land lines past x (left_of d) d.full_at) e h.did)
 
   -- a worker's deed that didn't find the history full is one at rest
-  rested : (d : Deed) (w : ℕ) → d.who ≡ caller.Worker w → w < 256 → is_some d.full_at ≡ false → DidDeed objects lines past d → d.rests ≡ true
+  rested : (d : Deed) (w : ℕ) → d.who ≡ caller.Worker w → w < 256 → is_some d.full_at ≡ false → DidDeed land lines past d → d.rests ≡ true
   rested d w e small off h =
       rest_law first made w d.rests well (subst AreTheirs is theirs) small (subst (λ p. WorkerDid p w d.rests None) is (worker_did d w e off h))
 
-  none_rests : (ds : List Deed) → NoneRests ds → AllByRecursion (DidDeed objects lines past) ds → AreSmall (who_in ds) → found_full ds ≡ false
+  none_rests : (ds : List Deed) → NoneRests ds → AllByRecursion (DidDeed land lines past) ds → AreSmall (who_in ds) → found_full ds ≡ false
       → list_any is_worker (who_in ds) ≡ true → ⊥
   none_rests [] none all small full some = true≢false (sym some)
   none_rests (d ∷ ds) none all small full some =
@@ -101,7 +101,7 @@ module _ (rest_law : RestsLaw) (objects : List Object) (lines : List NumberedLin
           true≢false (sym rests ∙ (sym (ap (λ x. is_worker x && d.rests) e) ∙ none.0))
 
   -- a worker is one of them, at rest, or there is none of its number
-  idle_in : (v : ℕ) (ds : List Deed) → v < 256 → AllByRecursion (DidDeed objects lines past) ds → found_full ds ≡ false
+  idle_in : (v : ℕ) (ds : List Deed) → v < 256 → AllByRecursion (DidDeed land lines past) ds → found_full ds ≡ false
       → (list_any (λ (x : Who). is_same x (caller.Worker v)) (who_in ds) ≡ false) ⊎ WorkerDid past v true None
   idle_in v [] small all full = inl refl
   idle_in v (d ∷ ds) small all full =
@@ -131,7 +131,7 @@ module _ (rest_law : RestsLaw) (objects : List Object) (lines : List NumberedLin
       go false e rest = onto e rest
 
   idle : (v : ℕ) (callers : List Who) (ds : List Deed) → who_in ds ≡ callers → AreAmong callers past → v < 256
-      → AllByRecursion (DidDeed objects lines past) ds → found_full ds ≡ false → IsIdle past v
+      → AllByRecursion (DidDeed land lines past) ds → found_full ds ≡ false → IsIdle past v
   idle v callers ds who among small all full = go (idle_in v ds small all full)
     where
       go : (list_any (λ (x : Who). is_same x (caller.Worker v)) (who_in ds) ≡ false) ⊎ WorkerDid past v true None → IsIdle past v
@@ -147,12 +147,12 @@ module _ (rest_law : RestsLaw) (objects : List Object) (lines : List NumberedLin
   }
 
   module _ (none_law : NoneLaw) (s t : State) (at : t ≡ state_after first made) (began : BeganAt first s) (callers : List Who) (deeds now : List Deed)
-      (among : AreAmong callers past) (done : AreDone objects lines callers past now) (some : HasWorker callers) (small : AreSmall callers)
+      (among : AreAmong callers past) (done : AreDone land lines callers past now) (some : HasWorker callers) (small : AreSmall callers)
       (full : found_full now ≡ false) where
     by_look : OneLooks s t deeds now → NoneWaits t
     by_look o =
-        let all : AllByRecursion (DidDeed objects lines past) (o.front ++ o.deed_now ∷ o.back) =
-        subst (AllByRecursion (DidDeed objects lines past)) o.is done.did in
+        let all : AllByRecursion (DidDeed land lines past) (o.front ++ o.deed_now ∷ o.back) =
+        subst (AllByRecursion (DidDeed land lines past)) o.is done.did in
         let who : o.deed_now.who ≡ caller.Worker o.looks.worker = o.looks.same ∙ o.looks.who in
         let few : found_full (o.front ++ o.deed_now ∷ o.back) ≡ false = ap found_full (sym o.is) ∙ full in
         let rests : o.deed_now.rests ≡ true =
@@ -164,7 +164,7 @@ module _ (rest_law : RestsLaw) (objects : List Object) (lines : List NumberedLin
         (subst (RestedAlone o.looks.worker s) at (rested_alone s t o.deed o.deed_now o.looks rests)) began
         (λ v lt. subst (λ p. IsIdle p v) is (idle v callers now done.who among lt done.did full)))
       where
-        did_in : (front back : List Deed) (d : Deed) → AllByRecursion (DidDeed objects lines past) (front ++ d ∷ back) → DidDeed objects lines past d
+        did_in : (front back : List Deed) (d : Deed) → AllByRecursion (DidDeed land lines past) (front ++ d ∷ back) → DidDeed land lines past d
         did_in [] back d h = h.0
         did_in (x ∷ front) back d h = did_in front back d h.1
 
@@ -183,12 +183,12 @@ module _ (rest_law : RestsLaw) (objects : List Object) (lines : List NumberedLin
         (ap (list_any is_worker) done.who ∙ some))
 
 -- behind the last look
-pub leaves_none : (rest_law : RestsLaw) (none_law : NoneLaw) (objects : List Object) (lines : List NumberedLine) (told tells linked : Bool) (first : State)
+pub leaves_none : (rest_law : RestsLaw) (none_law : NoneLaw) (land : Land) (lines : List NumberedLine) (told tells linked : Bool) (first : State)
     (before : Counts)
     (s t : State) (at_s at_t : Counts) (callers : List Who) (deeds now : List Deed) → IsFresh first → first.past ≡ []
     → IsLed told tells linked first before s at_s → (led : IsLed told tells linked first before t at_t) → AreTheirs t.past
-    → AreAmong callers t.past → AreDone objects lines callers t.past now → HasWorker callers → AreSmall callers → LooksLast s t deeds now → LeavesNone t now
-leaves_none rest_law none_law objects lines told tells linked first before s t at_s at_t callers deeds now fresh none led_s led theirs among done some small
+    → AreAmong callers t.past → AreDone land lines callers t.past now → HasWorker callers → AreSmall callers → LooksLast s t deeds now → LeavesNone t now
+leaves_none rest_law none_law land lines told tells linked first before s t at_s at_t callers deeds now fresh none led_s led theirs among done some small
     looks calm memory full =
     let well : WentWell first led.made = record {
       fresh = fresh;
@@ -197,6 +197,6 @@ leaves_none rest_law none_law objects lines told tells linked first before s t a
       calm = subst HasNoTrouble led.calls calm;
       memory = subst (λ p. list_any wants p ≡ false) led.calls memory;
     } in
-    waits_none rest_law objects lines first led.made t.past led.calls well theirs none_law s t led.state
+    waits_none rest_law land lines first led.made t.past led.calls well theirs none_law s t led.state
     (led_s.made, led_s.answers, led_s.state) callers deeds now
     among done some small full looks

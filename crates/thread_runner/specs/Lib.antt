@@ -1,6 +1,10 @@
+pub mod Deeds
+pub mod Numbers
 pub mod Threads
 pub mod Hiring
 pub mod Looking
+pub mod Stocking
+pub mod Kits
 pub mod Acting
 pub mod Answers
 pub mod Writing

@@ -27,6 +27,7 @@ pub record LooksOnce (s t : State) (d now : Deed) : Type 0 where
   pub who : d.who ≡ caller.Worker worker
   pub same : now.who ≡ d.who
   pub said : now.said ≡ d.said
+  pub drawn : now.drawn ≡ d.drawn
   pub glanced : now.glanced ≡ d.glanced
   pub work : DidWork LeadsServed worker now.rests (stood s d) (stood t now)
   pub long : IsLong t.past now

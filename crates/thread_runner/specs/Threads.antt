@@ -1,5 +1,5 @@
 -- A script whose sessions, administrator and workers are threads.
-use Rattle.std.specs.Prelude.{◌≡◌, ◌⊎◌, ℕ, false, List, [], ◌∷◌, ◌++◌, length, Option, Some, None}
+use Rattle.std.specs.Prelude.{◌≡◌, ◌⊎◌, ℕ, false, List, [], ◌∷◌, ◌++◌, length, map, Option, Some, None}
 use Rattle.std.specs.List.{AllByRecursion}
 use Rattle.std.specs.Option.{option_map_or}
 use Rattle.std.specs.Io.KnownBytes.{Appends, Consumes}
@@ -10,13 +10,17 @@ use Rattle.dialogue_session.specs.Private.{Private}
 use Rattle.hall_model.specs.State.{State}
 use Rattle.hall_model.specs.declared.command.PastEntry.{PastEntry}
 use Rattle.hall_model.specs.declared.command.Who.{Who}
+use Rattle.hall_model.specs.declared.command.Who.TheVariants as caller
 use Rattle.io_edge.specs.Known.{AppendsFirst}
+use Rattle.ledger_steps.specs.Levels.{intervals_of}
 use Rattle.lock_objects.specs.Objects.{Object}
 use Rattle.order_laws.specs.Behind.{HasNoTrouble}
 use Rattle.order_laws.specs.Resting.{NoneWaits}
 use Rattle.run_report.specs.Report.{past_text, report_text}
-use Rattle.script_actors.specs.Actors.{DoesLines, deeds, lines_of_actor, no_deeds}
+use Rattle.script_actors.specs.Actors.{DoesLines, Land, deeds, land_of, lines_of_actor, no_deeds}
+use Rattle.script_actors.specs.Drawings.{DeskEntry, calls_in, desk_call, drawn_in}
 use Rattle.script_actors.specs.declared.actor.Said.{Said}
+use Rattle.script_actors.specs.declared.drawing.Drawing.{Drawing}
 use Rattle.script_actors.specs.declared.line.NumberedLine.{NumberedLine}
 use Rattle.script_runner.specs.Faults.{answer_at, tells_other}
 use Rattle.script_runner.specs.Replay.{IsDoubted, IsDoubtedBy, Seen, doubt_of}
@@ -25,53 +29,56 @@ use Rattle.script_runner.specs.declared.runner.Why.TheVariants.{Done, SinkFault,
 use Rattle.script_runner.specs.declared.runner.Why.TheVariants.{BadBackup, NoMemory, LogFull}
 use Rattle.thread_runner.specs.Answers.{AreInOrder, answers_of}
 use Rattle.whole_script.specs.Reading.{IsRead, IsReadingEnd}
-use Rattle.caller_laws.specs.Callers.{AreAmong, actors_of, threads_of, view_by}
-use Rattle.caller_laws.specs.Doing.{Did, Left, nothing_asked}
+use Rattle.caller_laws.specs.Callers.{AreAmong, entries_by, threads_of}
+use Rattle.caller_laws.specs.Doing.{Left, desk_seen, nothing_asked}
 use Rattle.turn_desks.specs.Watching.{HasShown}
+use Rattle.thread_runner.specs.Deeds.{Deeds}
+use Rattle.thread_runner.specs.Numbers.{DrawsNumbers}
 
 -- ---- who did what
-
--- what one of the threads did, as the history has it
-pub record Deed (objects : List Object) (lines : List NumberedLine) (past : List PastEntry) (w : Who) : Type 0 where
-  pub left : Left
-  -- the line of its last call that found the history full
-  pub full_at : Option ℕ
-  pub did : Did objects lines past w left full_at
-
--- what each of these did
-abbrev pub Deeds : List Object → List NumberedLine → List PastEntry → List Who → Type 0
-Deeds objects lines past callers = AllByRecursion (Deed objects lines past) callers
 
 -- What each of these saw of the counts of the server, while it rested, was shown one behind the other on the way from
 -- the first state to this one, each behind so many of its calls.
 abbrev pub HaveLooked :
-    (objects : List Object) (lines : List NumberedLine) (past : List PastEntry) → State → State → (callers : List Who)
-    → Deeds objects lines past callers → Type 0
-HaveLooked objects lines past first s [] all = Unit {0}
-HaveLooked objects lines past first s (w ∷ ws) all = HasShown first s all.0.left.looks
-    × HaveLooked objects lines past first s ws all.1
+    (land : Land) (lines : List NumberedLine) (past : List PastEntry) → State → State → (callers : List Who)
+    → Deeds land lines past callers → Type 0
+HaveLooked land lines past first s [] all = Unit {0}
+HaveLooked land lines past first s (w ∷ ws) all = HasShown first s all.0.left.looks
+    × HaveLooked land lines past first s ws all.1
 
--- All of an actor's lines were done: its calls are those that they come to, one behind the other, with the replies of
--- the history, and of those that come to no call these are the answers.
-pub record AllLinesDone (objects : List Object) (lines : List NumberedLine) (past : List PastEntry)
-    (w : Who) : Type 0 where
+-- All of an actor's lines were done: what its desk did is what they come to, one behind the other, with the replies of
+-- the history, the numbers that it drew are theirs, and of those whose answer isn't in the history these are the
+-- answers.
+pub record AllLinesDone (land : Land) (lines : List NumberedLine) (past : List PastEntry) (w : Who)
+    (left : Left) : Type 0 where
   pub sides : List Private
+  pub entries : List DeskEntry
   pub said : List Said
-  pub does : DoesLines objects (lines_of_actor w lines) (no_deeds nothing_asked)
-      (deeds sides (view_by w past None) said false)
+  pub does : DoesLines land w (lines_of_actor w lines) (no_deeds nothing_asked)
+      (deeds sides (desk_seen entries None) said false)
+  pub calls : calls_in entries ≡ map desk_call (entries_by w past)
+  pub drawn : left.drawn ≡ drawn_in entries
+  pub told : left.said ≡ Some said
 
-abbrev pub AreAllDone : List Object → List NumberedLine → List PastEntry → Type 0
-AreAllDone objects lines past = AllByRecursion (AllLinesDone objects lines past) (actors_of lines)
+abbrev pub HasAllDone : Land → List NumberedLine → List PastEntry → Who → Left → Type 0
+HasAllDone land lines past (caller.Worker w) left = Unit {0}
+HasAllDone land lines past w left = AllLinesDone land lines past w left
+
+-- all lines of each of them
+abbrev pub AreAllDone : (land : Land) (lines : List NumberedLine) (past : List PastEntry) (callers : List Who)
+    → Deeds land lines past callers → Type 0
+AreAllDone land lines past [] all = Unit {0}
+AreAllDone land lines past (w ∷ ws) all = HasAllDone land lines past w all.0.left × AreAllDone land lines past ws all.1
 
 -- ---- what is answered beside the history
 
 -- of all threads, one behind the other
-abbrev pub all_answers : (objects : List Object) (lines : List NumberedLine) (past : List PastEntry)
+abbrev pub all_answers : (land : Land) (lines : List NumberedLine) (past : List PastEntry)
     (callers : List Who)
-    → Deeds objects lines past callers → List Said
-all_answers objects lines past [] all = []
-all_answers objects lines past (w ∷ ws) all =
-    answers_of lines w all.0.left.said all.0.full_at ++ all_answers objects lines past ws all.1
+    → Deeds land lines past callers → List Said
+all_answers land lines past [] all = []
+all_answers land lines past (w ∷ ws) all =
+    answers_of lines w all.0.left.said all.0.full_at ++ all_answers land lines past ws all.1
 
 -- ---- how it ends
 
@@ -91,8 +98,10 @@ pub record IsReported (lines : List NumberedLine) (s : State) (all : List Said) 
   pub quiet : new.faults ≡ old.faults
 
 -- the same, of a script all of whose lines were done
-abbrev pub IsDoneWhole : List Object → List NumberedLine → State → List Said → Output → Output → Type 0
-IsDoneWhole objects lines s all old new = IsReported lines s all old new × AreAllDone objects lines s.past
+abbrev pub IsDoneWhole : (land : Land) (lines : List NumberedLine) (s : State) (callers : List Who)
+    → Deeds land lines s.past callers → Output → Output → Type 0
+IsDoneWhole land lines s callers did old new =
+    IsReported lines s (all_answers land lines s.past callers did) old new × AreAllDone land lines s.past callers did
 
 -- the history is written, and some of what comes behind it
 pub record BeginsReport (s : State) (old new : Output) : Type 0 where
@@ -111,58 +120,61 @@ pub record IsReportCut (s : State) (old new : Output) : Type 0 where
 abbrev pub EndsWorked : State → Type 0
 EndsWorked s = HasNoTrouble s.past → NoneWaits s
 
--- Why a run ended whose script was read to its end, where these are the answers beside the history.
-abbrev pub IsEndOfRun : List Object → List NumberedLine → State → List Said → Output → Output → Why → Type 0
-IsEndOfRun objects lines s all old new Done = IsDoneWhole objects lines s all old new × (doubt_of s ≡ None)
+-- Why a run ended whose script was read to its end, where this is what its threads did.
+abbrev pub IsEndOfRun : (land : Land) (lines : List NumberedLine) (s : State) (callers : List Who)
+    → Deeds land lines s.past callers → Output → Output → Why → Type 0
+IsEndOfRun land lines s callers did old new Done = IsDoneWhole land lines s callers did old new × (doubt_of s ≡ None)
     × EndsWorked s
-IsEndOfRun objects lines s all old new (StoreFault k) =
-    IsDoneWhole objects lines s all old new × (doubt_of s ≡ Some k)
+IsEndOfRun land lines s callers did old new (StoreFault k) =
+    IsDoneWhole land lines s callers did old new × (doubt_of s ≡ Some k)
     × (option_map_or tells_other (answer_at s.past k) false ≡ false)
-IsEndOfRun objects lines s all old new (BackupFault k) =
-    IsDoneWhole objects lines s all old new × IsDoubted s k refusal.BackupFault
-IsEndOfRun objects lines s all old new (BadStore table row) =
-    IsDoneWhole objects lines s all old new × IsDoubtedBy s (refusal.Unsound (bad.Store table row))
-IsEndOfRun objects lines s all old new (BadBackup place) =
-    IsDoneWhole objects lines s all old new × IsDoubtedBy s (refusal.Unsound (bad.Backup place))
-IsEndOfRun objects lines s all old new SinkFault = IsReportCut s old new
-IsEndOfRun objects lines s all old new NoMemory = BeginsReport s old new
-IsEndOfRun objects lines s all old new LogFull = IsReported lines s all old new × (length s.past ≡ 262144)
-IsEndOfRun objects lines s all old new why = ⊥
+IsEndOfRun land lines s callers did old new (BackupFault k) =
+    IsDoneWhole land lines s callers did old new × IsDoubted s k refusal.BackupFault
+IsEndOfRun land lines s callers did old new (BadStore table row) =
+    IsDoneWhole land lines s callers did old new × IsDoubtedBy s (refusal.Unsound (bad.Store table row))
+IsEndOfRun land lines s callers did old new (BadBackup place) =
+    IsDoneWhole land lines s callers did old new × IsDoubtedBy s (refusal.Unsound (bad.Backup place))
+IsEndOfRun land lines s callers did old new SinkFault = IsReportCut s old new
+IsEndOfRun land lines s callers did old new NoMemory = BeginsReport s old new
+IsEndOfRun land lines s callers did old new LogFull = IsReported lines s (all_answers land lines s.past callers did) old new × (length s.past ≡ 262144)
+IsEndOfRun land lines s callers did old new why = ⊥
 
--- what threads have done with these lines from a first state on, and how it ended
-pub record HaveDone (objects : List Object) (lines : List NumberedLine) (workers : ℕ) (first s : State)
+-- what threads have done with these lines from a first state on, what they drew, and how it ended
+pub record HaveDone (land : Land) (lines : List NumberedLine) (workers : ℕ) (first s : State) (drawn : List Drawing)
     (old new : Output) (why : Why) : Type 0 where
   pub callers : AreAmong (threads_of lines workers) s.past
-  pub did : Deeds objects lines s.past (threads_of lines workers)
-  pub looked : HaveLooked objects lines s.past first s (threads_of lines workers) did
-  pub end : IsEndOfRun objects lines s (all_answers objects lines s.past (threads_of lines workers) did) old new why
+  pub did : Deeds land lines s.past (threads_of lines workers)
+  pub looked : HaveLooked land lines s.past first s (threads_of lines workers) did
+  pub numbers : DrawsNumbers land lines first s (threads_of lines workers) did drawn
+  pub end : IsEndOfRun land lines s (threads_of lines workers) did old new why
 
--- The script wasn't read to its end, or memory was wanting before its first call: no call was made, and nothing was
--- written. Of its bytes these were read.
-pub record EndsReading (before after : State) (old new : Seen) (why : Why) : Type 0 where
+-- The script wasn't read to its end, or memory was wanting before its first call: no call was made, no number was drawn,
+-- and nothing was written. Of its bytes these were read.
+pub record EndsReading (before after : State) (drawn : List Drawing) (old new : Seen) (why : Why) : Type 0 where
   pub bytes : List ℕ
   pub read : Consumes old.left new.left bytes
   pub end : IsReadingEnd bytes new.left old.source_faults new.source_faults why
   pub state : after ≡ before
+  pub none : drawn ≡ []
   pub written : new.written ≡ old.written
   pub quiet : new.sink_faults ≡ old.sink_faults
 
 -- The script was read, and done by threads. The calls of each session and of the administrator are those that its own
 -- lines make of its private side, in order, with the replies of the history; each worker's are those of its loop; and
--- there are no others.
-pub record EndsRun (objects : List Object) (workers : ℕ) (before after : State) (old new : Seen)
+-- there are no others. Numbers of intervals with a buffer were drawn from stocks.
+pub record EndsRun (objects : List Object) (workers : ℕ) (before after : State) (drawn : List Drawing) (old new : Seen)
     (why : Why) : Type 0 where
   pub bytes : List ℕ
   pub read : Consumes old.left new.left bytes
   pub lines : List NumberedLine
   pub known : IsRead bytes new.left lines
   pub quiet : new.source_faults ≡ old.source_faults
-  pub done : HaveDone objects lines workers before after (output old.written old.sink_faults)
-      (output new.written new.sink_faults) why
+  pub done : HaveDone (land_of objects (intervals_of before.ranges)) lines workers before after drawn
+      (output old.written old.sink_faults) (output new.written new.sink_faults) why
 
-abbrev pub RunsThreads : List Object → ℕ → State → State → Seen → Seen → Why → Type 0
-RunsThreads objects workers before after old new why =
-    EndsReading before after old new why ⊎ EndsRun objects workers before after old new why
+abbrev pub RunsThreads : List Object → ℕ → State → State → List Drawing → Seen → Seen → Why → Type 0
+RunsThreads objects workers before after drawn old new why =
+    EndsReading before after drawn old new why ⊎ EndsRun objects workers before after drawn old new why
 
 -- the script was done to its end, or memory was wanting, or the history is full
 abbrev pub EndsWhole : Why → Type 0

@@ -4,9 +4,12 @@
 
 mod answers;
 mod callers;
+mod equipping;
 mod hiring;
+mod joining;
 mod last_look;
 mod report;
 mod running;
+mod stocking;
 
 pub use running::run;

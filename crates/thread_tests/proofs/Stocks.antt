@@ -1,9 +1,9 @@
 -- A call with no numbers of a stock may always be made.
-use Rattle.std.proofs.Common.{◌≡◌, [], sym, subst, arith}
+use Rattle.std.proofs.Common.{[], sym, subst, arith}
 use Rattle.hall_model.specs.Calls.{Call, Commits, LogsOn, OfAdmin, OfSession, OfWorker, SessionCall}
 use Rattle.hall_model.specs.State.{State}
 use Rattle.hall_model.specs.Stocks.{IsStockIn, MayCall, SessionMayCall}
-use Rattle.script_actors.specs.Actors.{HasNoStock, HasNoStockIn}
+use Rattle.turn_desks.specs.Asking.{HasNoStock, HasNoStockIn}
 
 no_stock : (s : State) → IsStockIn s []
 no_stock s = record { reserved = tt; once = λ i among n. omega arith; fresh = λ i among n some. absurd (omega (arith, some)) }

@@ -1,6 +1,6 @@
 ghost use Rattle.std.specs.Prelude.{◌≡◌, true};
 ghost use Rattle.hall_model.specs.Calls.{call_of};
-ghost use Rattle.script_actors.specs.Actors.{HasNoStock};
+ghost use Rattle.turn_desks.specs.Asking.{HasNoStock};
 
 use crate::halls::{Failing, MemHall, order_hall};
 use hall_model::{Command, PastEntry, Reply};

@@ -1,7 +1,8 @@
-ghost use Rattle.std.specs.Prelude.{◌≡◌, [], IfOk, IfSome};
+ghost use Rattle.std.specs.Prelude.{◌≡◌, ◌∷◌, [], IfOk, IfSome};
 ghost use Rattle.enq_base.specs.declared.condition.Condition.TheVariants.{Up};
 ghost use Rattle.ledger_steps.specs.Levels.{AreIntervals, IsUnused};
 ghost use Rattle.order_laws.specs.Behind.{NoneHasOrder};
+ghost use Rattle.thread_runner.specs.Stocking.{IsOpened};
 
 use bk_disk::MemDisk;
 use enq_base::{Name, read_name};
@@ -55,7 +56,8 @@ pub(crate) fn order_objects(alloc: Global) -> Result<Vec<LockObject>, Fail> {
 }
 
 fn order_interval(object: Name) -> Interval
-    ensures { IsUnused result }
+    ensures unused { IsUnused result }
+    ensures nr { result.nr ≡ 48 ∷ 49 ∷ [] }
 {
     Interval {
         object,
@@ -68,13 +70,45 @@ fn order_interval(object: Name) -> Interval
     }
 }
 
-/// The one interval of the scripts.
+fn long_interval(object: Name) -> Interval
+    ensures unused { IsUnused result }
+    ensures nr { result.nr ≡ 48 ∷ 50 ∷ [] }
+{
+    Interval {
+        object,
+        nr: *b"02",
+        from: 1,
+        to: 1_000_000,
+        level: 0,
+        buffer: 10,
+        percent: 0,
+    }
+}
+
+fn short_interval(object: Name) -> Interval
+    ensures unused { IsUnused result }
+    ensures nr { result.nr ≡ 48 ∷ 51 ∷ [] }
+{
+    Interval {
+        object,
+        nr: *b"03",
+        from: 1,
+        to: 25,
+        level: 0,
+        buffer: 10,
+        percent: 0,
+    }
+}
+
+/// The intervals of the scripts: one without a buffer, a long one with a buffer, and a short one with a buffer.
 fn order_intervals(alloc: Global) -> Result<Vec<Interval>, Fail>
     ensures { IfOk result (λ intervals. AreIntervals intervals.items) }
 {
-    let interval = order_interval(name_of(b"ZORDNR")?);
+    let object = name_of(b"ZORDNR")?;
     let mut intervals = Vec::new(alloc);
-    intervals.push(interval)?;
+    intervals.push(order_interval(object))?;
+    intervals.push(long_interval(object))?;
+    intervals.push(short_interval(object))?;
     Ok(intervals)
 }
 
@@ -100,6 +134,7 @@ pub(crate) fn order_hall(alloc: Global, failing: Failing) -> Result<Option<MemHa
     ensures none { IfOk result (λ found. IfSome found (λ hall. hall.state.past ≡ [])) }
     ensures up { IfOk result (λ found. IfSome found (λ hall. hall.state.condition ≡ Up)) }
     ensures free { IfOk result (λ found. IfSome found (λ hall. NoneHasOrder hall.state)) }
+    ensures opened { IfOk result (λ found. IfSome found (λ hall. IsOpened hall.state)) }
 {
     let intervals = order_intervals(alloc)?;
     let keeper = keeper_with(alloc, failing)?;

@@ -1,5 +1,5 @@
-//! Runs of scripts by threads: actors that wait for one another, many of them, devices that fail on the way, and what a
-//! worker sees at the gauges.
+//! Runs of scripts by threads: actors that wait for one another, many of them, devices that fail on the way, numbers
+//! of stocks, and what a worker sees at the gauges.
 #![tactic(auto)]
 
 #[cfg(test)]
@@ -14,6 +14,8 @@ mod faults;
 mod gates;
 #[cfg(test)]
 mod halls;
+#[cfg(test)]
+mod numbers;
 #[cfg(test)]
 mod runs;
 #[cfg(test)]

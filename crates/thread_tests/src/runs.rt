@@ -4,6 +4,7 @@ use crate::again::is_served_again;
 use crate::halls::{Failing, MemHall, NONE, order_hall, order_objects, source_of};
 use hall_model::PastEntry;
 use io_edge::MemSink;
+use script_actors::Drawing;
 use script_runner::Why;
 use std::alloc::Global;
 use std::sync::Wait;
@@ -17,6 +18,7 @@ use turn_desks::Gate;
 struct Told {
     text: Vec<u8>,
     past: Vec<PastEntry>,
+    drawn: Vec<Drawing>,
     why: Why,
 }
 
@@ -27,8 +29,11 @@ pub(crate) struct Heard {
     /// How many calls its history has.
     pub(crate) calls: usize,
     pub(crate) why: Why,
-    /// Whether these calls are answered as they were where they are served again.
+    /// Whether these calls are answered as they were where they are served again. No where one of them has numbers of
+    /// a stock.
     pub(crate) again: bool,
+    /// The numbers that were drawn from stocks.
+    pub(crate) drawn: Vec<Drawing>,
 }
 
 fn past_of(hall: MemHall) -> Vec<PastEntry> {
@@ -52,7 +57,7 @@ fn told_of<R: Threads + Wait + Sync, G: Gate + Sync>(
     let Some(hall) = order_hall(alloc, failing)? else {
         return Ok(None);
     };
-    let (hall, why) = run(
+    let (hall, drawn, why) = run(
         rt,
         alloc,
         &mut script,
@@ -64,11 +69,21 @@ fn told_of<R: Threads + Wait + Sync, G: Gate + Sync>(
     );
     let past = past_of(hall);
     let text = sink.bytes().to_vec(alloc)?;
-    Ok(Some(Told { text, past, why }))
+    Ok(Some(Told {
+        text,
+        past,
+        drawn,
+        why,
+    }))
 }
 
 fn heard_of(alloc: Global, failing: Failing, told: Told) -> Result<Heard, Fail> {
-    let Told { text, past, why } = told;
+    let Told {
+        text,
+        past,
+        drawn,
+        why,
+    } = told;
     let calls = past.len();
     let again = is_served_again(alloc, failing, past)?;
     Ok(Heard {
@@ -76,6 +91,7 @@ fn heard_of(alloc: Global, failing: Failing, told: Told) -> Result<Heard, Fail> 
         calls,
         why,
         again,
+        drawn,
     })
 }
 

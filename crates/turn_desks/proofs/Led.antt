@@ -20,9 +20,10 @@ use Rattle.enq_base.specs.declared.refusal.Refusal.TheVariants as refusal
 use Rattle.hall_laws.proofs.keeping.Unchanged.{served-past}
 use Rattle.hall_laws.proofs.histories.NotedSteps.{AnswersFrom, IsTold, answers_before, told-answers}
 use Rattle.hall_calls.proofs.lemmas.Replies.{step_counts, step_file_counts, unnoted_same}
-use Rattle.script_actors.specs.Actors.{DeskCall, HasNoStock, HasNoStockIn, desk_call, with_call}
+use Rattle.script_actors.specs.Drawings.{DeskCall, desk_call, with_call}
 use Rattle.script_runner.specs.Faults.{NoneUnsound, NoneUnsoundReplica, NoneUnsoundStore}
 use Rattle.script_runner.specs.Counts.{CountsCalls, file_fails_in_call, store_fails_in_call}
+use Rattle.turn_desks.specs.Asking.{HasNoStock, HasNoStockIn}
 use Rattle.turn_desks.specs.Led.{Counts, IsLed}
 use Rattle.script_runner.specs.Replicas.{CountsLinkEach, GoesOnLinked, HasLinked, LinkCounts, follows_behind}
 use Rattle.script_runner.proofs.lemmas.Kept.{same_counts}

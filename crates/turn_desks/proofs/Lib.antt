@@ -1,6 +1,15 @@
 pub mod Turns
 pub mod Led
 pub mod Ups
-pub mod Stocks
+pub mod Workers
 pub mod Glances
 pub mod lemmas
+pub mod Woven
+pub mod Numbers
+pub mod Lots
+pub mod Desks
+pub mod Asked
+pub mod HandingOver
+pub mod Drawings
+pub mod Drew
+pub mod Rights

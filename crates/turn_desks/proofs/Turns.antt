@@ -11,7 +11,8 @@ use Rattle.hall_model.specs.declared.command.Reply.{Reply}
 use Rattle.turn_lock.specs.declared.view.View.{View}
 use Rattle.turn_lock.specs.Passes.{IsTurn}
 use Rattle.turn_lock.specs.Rule.{own_entries}
-use Rattle.script_actors.specs.Actors.{DeskCall, desk_call, full_after, is_full, with_call}
+use Rattle.script_actors.specs.Actors.{full_after, is_full}
+use Rattle.script_actors.specs.Drawings.{DeskCall, desk_call, with_call}
 use Rattle.order_laws.specs.Behind.{up_after}
 use Rattle.turn_desks.specs.Asking.{Asks, IsAsked}
 use Rattle.turn_desks.specs.Parts.{IsPart}
@@ -26,6 +27,19 @@ module _ {S : Type 0} (past : S → List PastEntry) where
       let more = part_turned (own_entries v) v.seen (past t.before) (past t.after) t.began t.grew h in
       subst (λ l. IsPart l w.seen) (sym t.own)
       (subst (λ (x : View PastEntry). IsPart (own_entries v ++ drop (length (past t.before)) (past t.after)) x.seen) (sym t.knows) more))
+
+  -- a turn of which less is told
+  pub turn_of : (does less : S → S → Type 0) (v w : View PastEntry) → ((x y : S) → does x y → less x y) → IsTurn past does v w → IsTurn past less v w
+  turn_of does less v w tells t = record {
+    before = t.before;
+    after = t.after;
+    ran = tells t.before t.after t.ran;
+    began = t.began;
+    grew = t.grew;
+    behind = t.behind;
+    knows = t.knows;
+    own = t.own;
+  }
 
   dropped : (front rest : List PastEntry) → drop (length front) (front ++ rest) ≡ rest
   dropped [] rest = refl
@@ -96,11 +110,11 @@ module _ {S : Type 0} (past : S → List PastEntry) where
   either P false f g = g refl
 
   -- where a call found the history full, the pass has seen one that is as long as it may be
-  pub full_kept : (n : ℕ) (c : Command) (r : Reply) (up : Bool) (v w : View PastEntry) (before : Option ℕ) → IsAsked past n c r up v w
+  pub full_kept : (m n : ℕ) (c : Command) (r : Reply) (up : Bool) (v w : View PastEntry) (before : Option ℕ) → IsAsked past m c r up v w
       → (IsTrue (is_some before) → 262144 ≤ length v.seen) → IsTrue (is_some (full_after before n r)) → 262144 ≤ length w.seen
-  full_kept n c r up v w before asked was now =
+  full_kept m n c r up v w before asked was now =
       either (262144 ≤ length w.seen) (is_full r) asked.full
       (λ off. let same : full_after before n r ≡ before = ap (λ b. if b then Some n else before) off in
       let had : 262144 ≤ length v.seen = was (subst (λ o. IsTrue (is_some o)) same now) in
-      let more = seen_grows (Asks past n c r up) v w asked.turn in
+      let more = seen_grows (Asks past m c r up) v w asked.turn in
       omega (arith, had, more))

@@ -1,3 +1,5 @@
 pub mod Parts
 pub mod Places
 pub mod Watched
+pub mod Seating
+pub mod HandedOver

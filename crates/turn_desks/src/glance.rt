@@ -3,7 +3,7 @@ ghost use Rattle.gauges.specs.Boards.{seen, IsReaderOf};
 ghost use Rattle.turn_desks.specs.Watching.{IsReaderAt, LooksUntil, board_of};
 
 use crate::gate::Gate;
-use crate::turn_desk::LockName;
+use crate::names::LockName;
 use enq_base::Readings;
 use gauges::{GaugePass, Gauges};
 use hall_model::Who;

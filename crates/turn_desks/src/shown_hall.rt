@@ -1,11 +1,19 @@
-ghost use Rattle.std.specs.Prelude.{◌≡◌, ◌∷◌, []};
+ghost use Rattle.std.specs.Prelude.{◌≡◌, ◌≤◌, ◌&&◌, ◌∷◌, [], false, length, map, true};
 ghost use Rattle.std.specs.List.{AllByRecursion};
+ghost use mathlib.Core.List.{IsPrefix};
 ghost use Rattle.gauges.specs.Boards.{latest, seen, told, IsReaderOf, IsWriterOf};
+ghost use Rattle.hall_model.specs.Calls.{call_of};
+ghost use Rattle.hall_model.specs.History.{IsStep};
+ghost use Rattle.hall_model.specs.Stocks.{MayCall};
 ghost use Rattle.hall_model.specs.Views.{readings_of};
+ghost use Rattle.order_laws.specs.Behind.{is_post, up_after};
+ghost use Rattle.order_workers.specs.Orders.{is_idle};
+ghost use Rattle.script_actors.specs.Actors.{is_full};
+ghost use Rattle.script_actors.specs.Drawings.{desk_call, with_call};
 ghost use Rattle.turn_desks.specs.Watching.{HasShown, IsReaderAt, StandIn, board_of};
 
-use crate::served::{Origin, ServedHall, Serving};
-use crate::turn_desk::LockName;
+use crate::names::LockName;
+use crate::served::{Origin, ServedHall};
 use bk_disk::Disk;
 use gauges::{GaugePass, GaugeWriter, Gauges};
 use hall_model::{Command, PastEntry};
@@ -95,22 +103,41 @@ impl<'g, N: LockName, J: Origin, T: LockStore, K: Keeper, D: Disk, L: Link> Hist
     ghost past = { λ s. s.served.hall.state.past };
 }
 
-impl<'g, N: LockName, J: Origin, T: LockStore, K: Keeper, D: Disk, L: Link> Serving
-    for ShownHall<'g, N, J, T, K, D, L> {
-    fn serve(
+impl<'g, N: LockName, J: Origin, T: LockStore, K: Keeper, D: Disk, L: Link> ShownHall<
+    'g,
+    N,
+    J,
+    T,
+    K,
+    D,
+    L,
+> {
+    /// Serves a call of this line of the script.
+    pub fn serve(
         &mut self,
         alloc: Global,
         line: u32,
         command: Command,
         worked: Option<&Worked>,
-    ) -> Look {
+    ) -> Look
+        requires may { MayCall self.old.served.hall.state (call_of command) }
+        ensures told { map desk_call self.new.served.hall.state.past
+            ≡ with_call (map desk_call self.old.served.hall.state.past) line command result.reply }
+        ensures grows { IsPrefix self.old.served.hall.state.past self.new.served.hall.state.past }
+        ensures up { result.is_up ≡ up_after self.new.served.hall.state.past }
+        ensures full { is_full result.reply ≡ true → 262144 ≤ length self.new.served.hall.state.past }
+        ensures posts { (is_post (call_of command) && is_idle result.reply) ≡ false }
+        ensures length { result.past ≡ length self.new.served.hall.state.past }
+        ensures step { IsStep self.old.served.hall.state self.new.served.hall.state line command result.reply }
+    {
         let look = self.served.serve(alloc, line, command, worked);
         let now = self.served.readings();
         self.gauges.publish(&mut self.writer, &now);
         look
     }
 
-    fn draft(&self, alloc: Global, worker: u8) -> Option<Draft> {
+    /// What the V1 part is worked from that a worker has an order for, where there is memory for it.
+    pub(crate) fn draft(&self, alloc: Global, worker: u8) -> Option<Draft> {
         self.served.draft(alloc, worker)
     }
 }

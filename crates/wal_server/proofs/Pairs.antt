@@ -13,6 +13,7 @@ use Rattle.keeper_wal.specs.Wal.{told}
 use Rattle.keeper_wal.proofs.lemmas.Meaning.{meaning}
 use Rattle.landscape.specs.declared.landscape.Landscape.{Landscape}
 use Rattle.posting.specs.Reopening.{HasStood}
+use Rattle.script_actors.specs.declared.drawing.Drawing.{Drawing}
 use Rattle.script_runner.specs.Replay.{Seen}
 use Rattle.script_runner.specs.Replicas.{LinkCounts}
 use Rattle.script_runner.specs.declared.runner.Why.{Why}
@@ -82,14 +83,14 @@ module _ {site : SiteFound} {site_now : SiteLeft} {past : List PastEntry} (is_to
   }
 
   pub of_threads : {D L : Type 0} {workers : ℕ} {left : Option (List ℕ)} {disk disk_now : D} {link link_now : L} {old new : Seen}
-      {counts counts_now : LinkCounts}
-      {why : Why} → HasThreads workers left site site_now disk disk_now link link_now old new counts counts_now past why
-      → HasThreadPairs workers left site site_now disk disk_now link link_now old new counts counts_now past why journals
+      {counts counts_now : LinkCounts} {drawn : List Drawing} {why : Why}
+      → HasThreads workers left site site_now disk disk_now link link_now old new counts counts_now past drawn why
+      → HasThreadPairs workers left site site_now disk disk_now link link_now old new counts counts_now past drawn why journals
   of_threads h = record {
     land = h.land;
     read = h.read;
     serves = elim h.serves [
       | inl s ↦ inl (record { served = s; pairs = of_served s.promises })
-      | inr u ↦ inr (of_unopened u)
+      | inr u ↦ inr (of_unopened u.0, u.1)
     ];
   }

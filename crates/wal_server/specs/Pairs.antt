@@ -1,5 +1,5 @@
 -- What a stop leaves on both disks: that of the journal, and that of the backup file.
-use Rattle.std.specs.Prelude.{◌⊎◌, ℕ, Bool, true, List, Option, IsTrue}
+use Rattle.std.specs.Prelude.{◌≡◌, ◌⊎◌, ℕ, Bool, true, List, [], Option, IsTrue}
 use Rattle.enq_cmd.specs.Loading.{IsLoaded}
 use Rattle.enq_cmd.specs.Running.{IsServedByThreads}
 use Rattle.enq_cmd.specs.Main.{HasHanded, IsGoodFile, IsNextOf, IsRead, IsServed, IsUnopened, MayRemain, SurvivesStop}
@@ -15,6 +15,7 @@ use Rattle.landscape.specs.declared.landscape.Landscape.{Landscape}
 use Rattle.ledger_steps.specs.Starts.{IsRaised}
 use Rattle.lock_entry.specs.declared.entry.Entry.{Entry}
 use Rattle.posting.specs.Reopening.{HasStood}
+use Rattle.script_actors.specs.declared.drawing.Drawing.{Drawing}
 use Rattle.script_runner.specs.Replay.{Seen}
 use Rattle.script_runner.specs.Replicas.{LinkCounts}
 use Rattle.script_runner.specs.declared.runner.Why.{Why}
@@ -72,8 +73,9 @@ pub record LoadsPairs (n : ℕ) (land : Landscape) (site : SiteFound) (site_now 
 
 -- the same where the script is done by threads
 pub record ThreadsPairs (land : Landscape) (workers : ℕ) (site : SiteFound) (site_now : SiteLeft) (old new : Seen)
-    (counts counts_now : LinkCounts) (past : List PastEntry) (why : Why) (journals : List ℕ → Type 0) : Type 0 where
-  pub served : IsServedByThreads land workers site site_now old new counts counts_now past why
+    (counts counts_now : LinkCounts) (past : List PastEntry) (drawn : List Drawing) (why : Why)
+    (journals : List ℕ → Type 0) : Type 0 where
+  pub served : IsServedByThreads land workers site site_now old new counts counts_now past drawn why
   pub pairs : SurviveAll journals site_now.images
       (state_after (first_state land site.told site.linked served.stored) served.made)
 
@@ -106,8 +108,8 @@ pub record HasLoadedPairs {D L : Type 0} (n : ℕ) (left : Option (List ℕ)) (s
 -- and has the script done by threads
 pub record HasThreadPairs {D L : Type 0} (workers : ℕ) (left : Option (List ℕ)) (site : SiteFound) (site_now : SiteLeft)
     (disk disk_now : D) (link link_now : L) (old new : Seen) (counts counts_now : LinkCounts) (past : List PastEntry)
-    (why : Why) (journals : List ℕ → Type 0) : Type 0 where
+    (drawn : List Drawing) (why : Why) (journals : List ℕ → Type 0) : Type 0 where
   pub land : Landscape
   pub read : IsRead left land
-  pub serves : ThreadsPairs land workers site site_now old new counts counts_now past why journals
-      ⊎ RemainsUnopened site site_now disk disk_now link link_now old new past why journals
+  pub serves : ThreadsPairs land workers site site_now old new counts counts_now past drawn why journals
+      ⊎ (RemainsUnopened site site_now disk disk_now link link_now old new past why journals × (drawn ≡ []))

@@ -1,7 +1,7 @@
 //! The server with its store in a journal, and what a stop leaves on its disk and on that of the backup file.
 #![tactic(auto)]
 
-ghost use Rattle.std.specs.Prelude.{◌≡◌, ◌⊎◌, ℕ, None, IsTrue};
+ghost use Rattle.std.specs.Prelude.{◌≡◌, ◌⊎◌, ℕ, [], None, IsTrue};
 ghost use Rattle.enq_cmd.specs.Main.{IsLandEnd, IsUntouched};
 ghost use Rattle.enq_cmd.specs.Words.{NamesWork, replay_words};
 ghost use Rattle.enq_cmd.specs.declared.words.Work.TheVariants.{Loads, Runs};
@@ -75,10 +75,10 @@ pub fn journal_main<
         (seen (S.left script.new) (T.written sink.new) (S.faults script.new) (T.faults sink.new)
         (all_faults E.faults result.site.keeper) (D.faults result.site.disk))
         (link_counts L.faults L.refusals site.link) (link_counts L.faults L.refusals result.site.link)
-        result.past result.why (E.may_leave result.site.keeper.disk) ∥₁
+        result.past result.drawn result.why (E.may_leave result.site.keeper.disk) ∥₁
         ⊎ (IsLandEnd (A.faults landscape.old) (A.faults landscape.new) result.why
         × IsUntouched script.old script.new sink.old sink.new site.keeper result.site.keeper site.disk result.site.disk
-        site.link result.site.link result.past) }
+        site.link result.site.link result.past × (result.drawn ≡ [])) }
 {
     let ended = enqueue_main(rt, alloc, words, landscape, script, sink, site);
     images_tell(&ended.site.keeper);

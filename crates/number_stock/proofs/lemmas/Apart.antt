@@ -7,7 +7,7 @@ use Rattle.atomic_table.specs.Table.{Me, step, keeps, Allows, Splits}
 use Rattle.seat_sums.specs.Sums.{times, one_if}
 use Rattle.seat_sums.proofs.lemmas.Totals.{total_set, each_set, each_snoc, times_append}
 use Rattle.number_stock.specs.declared.hand.Hand.{Hand}
-use Rattle.number_stock.specs.Rule.{Fits, Kept, IsJoined, Owns, OwnsAnswers, both_of, given_of, heard, kept_of, parted, rest_of}
+use Rattle.number_stock.specs.Rule.{Fits, Kept, IsJoined, IsKnown, IsSame, Owns, OwnsAnswers, both_of, given_of, heard, kept_of, parted, rest_of, unused_of}
 
 -- what is so of the answers of a joined seat is so of each one's
 pub all_front : (P : ℕ → Type 0) (xs ys : List ℕ) → All P (xs ++ ys) → All P xs
@@ -21,9 +21,9 @@ right_stays : (a b c : Bool) → a ≡ (b || c) → c ≡ false → a ≡ b
 right_stays a true c is off = is
 right_stays a false c is off = is ∙ off
 
-parted_fits : (limit : ℕ) (v u : Hand) → OwnsAnswers v → All (λ t. t < u.limit) v.answered → (v.raises ≡ true → u.raises ≡ true) → Fits limit u
-    → Fits limit (parted v u)
-parted_fits limit v u owns below right f = record { seen = f.seen; set = λ yes. f.set (right yes); led = refl; below = below; own = owns }
+parted_fits : (limit : ℕ) (v u : Hand) → OwnsAnswers v → All (λ t. t < u.limit) v.answered → All (λ t. t < u.limit) v.drawn
+    → (v.raises ≡ true → u.raises ≡ true) → Fits limit u → Fits limit (parted v u)
+parted_fits limit v u owns below low right f = record { seen = f.seen; set = λ yes. f.set (right yes); led = refl; below = below; low = low; own = owns }
 
 module _ {S : Type 0} where
   pub parts_allowed : (draws id : ℕ) (v w u : Hand) → IsJoined v w u → Splits {S = S} (Kept draws) id u (parted v u) (parted w u)
@@ -33,6 +33,7 @@ module _ {S : Type 0} where
       let mine = k.each id u at in
       let views = set s.views id l in
       let below : All (λ t. t < u.limit) (v.answered ++ w.answered) = subst (All (λ t. t < u.limit)) j.answered mine.below in
+      let low : All (λ t. t < u.limit) (v.drawn ++ w.drawn) = subst (All (λ t. t < u.limit)) j.drawn mine.low in
       let right : u.raises ≡ v.raises = right_stays u.raises v.raises w.raises j.raises j.second in record {
         next = k.next;
         limit = k.limit;
@@ -54,11 +55,21 @@ module _ {S : Type 0} where
             let more = sum_by_push (λ (x : Hand). one_if x.raises) views r in
             let first : one_if u.raises ≡ one_if v.raises = ap one_if right in
             let second : one_if w.raises ≡ 0 = ap one_if j.second in omega arith;
+        remembered = λ t.
+            let was = k.remembered t in
+            let one = total_set (λ (x : Hand). times t x.drawn) s.views id u l at in
+            let two = total_set (λ (x : Hand). times t x.answered) s.views id u l at in
+            let more = sum_by_push (λ (x : Hand). times t x.drawn) views r in
+            let also = sum_by_push (λ (x : Hand). times t x.answered) views r in
+            let whole : times t u.drawn ≡ times t v.drawn + times t w.drawn = ap (times t) j.drawn ∙ times_append t v.drawn w.drawn in
+            let both : times t u.answered ≡ times t v.answered + times t w.answered = ap (times t) j.answered ∙ times_append t v.answered w.answered in
+            omega arith;
         each = each_snoc (Fits k.limit) views r
             (parted_fits k.limit w u j.owns.1 (all_back (λ t. t < u.limit) v.answered w.answered below)
-            (λ yes. absurd (true≢false (sym yes ∙ j.second))) mine)
+            (all_back (λ t. t < u.limit) v.drawn w.drawn low) (λ yes. absurd (true≢false (sym yes ∙ j.second))) mine)
             (each_set (λ _. Fits k.limit) s.views id l
-            (parted_fits k.limit v u j.owns.0 (all_front (λ t. t < u.limit) v.answered w.answered below) (λ yes. right ∙ yes) mine)
+            (parted_fits k.limit v u j.owns.0 (all_front (λ t. t < u.limit) v.answered w.answered below)
+            (all_front (λ t. t < u.limit) v.drawn w.drawn low) (λ yes. right ∙ yes) mine)
             (λ j u _ there. k.each j u there));
       }
 
@@ -76,6 +87,10 @@ module _ {S : Type 0} where
           tickets = λ t. let was = k.tickets t in let change = total_set (λ (u : Hand). times t u.tickets) s.views id v v at in omega arith;
           draws_left = let change = total_set (λ (u : Hand). u.draws) s.views id v v at in let was = k.draws_left in omega arith;
           one_raises = let change = total_set (λ (u : Hand). one_if u.raises) s.views id v v at in let was = k.one_raises in omega arith;
+          remembered = λ t.
+              let was = k.remembered t in
+              let one = total_set (λ (u : Hand). times t u.drawn) s.views id v v at in
+              let two = total_set (λ (u : Hand). times t u.answered) s.views id v v at in omega arith;
           each = each_set (λ _. Fits k.limit) s.views id v mine (λ j u _ there. k.each j u there);
         },
         (refl, mine.own),
@@ -97,22 +112,7 @@ kept_none v = λ i. record {
   draws = minus_none v.draws i;
   tickets = v.tickets;
   answered = v.answered;
-  limit = v.limit;
-  looks = v.looks;
-  raises = v.raises;
-  right_leads =
-      v.right_leads;
-}
-
-minus_all : (n : ℕ) → n - n ≡ 0
-minus_all n = omega arith
-
--- a seat that gives all its draws away has the rest
-pub kept_rest : (v : Hand) → kept_of v.draws v ≡ rest_of v
-kept_rest v = λ i. record {
-  draws = minus_all v.draws i;
-  tickets = v.tickets;
-  answered = v.answered;
+  drawn = v.drawn;
   limit = v.limit;
   looks = v.looks;
   raises = v.raises;
@@ -129,6 +129,7 @@ heard_is from to u is led =
       draws = plus_none to.draws i;
       tickets = append-nil to.tickets i;
       answered = append-nil to.answered i;
+      drawn = append-nil to.drawn i;
       limit = max to.limit from.limit;
       looks = plus_none to.looks i;
       raises = or_none to.raises i;
@@ -141,7 +142,31 @@ was_joined v w u is second first_owns second_owns = record {
   draws = ap (λ (x : Hand). x.draws) is;
   tickets = ap (λ (x : Hand). x.tickets) is;
   answered = ap (λ (x : Hand). x.answered) is;
+  drawn = ap (λ (x : Hand). x.drawn) is;
   raises = ap (λ (x : Hand). x.raises) is;
   second = second;
   owns = (first_owns, second_owns);
+}
+
+-- a seat that was compared is as it was, but for the limit that it knows
+pub first_same : (v w u : Hand) → u ≡ both_of v w → IsKnown u.limit v → IsSame v (parted v u)
+first_same v w u is known = record {
+  draws = refl;
+  tickets = refl;
+  answered = refl;
+  drawn = refl;
+  raises = refl;
+  limit = let limit : u.limit ≡ max v.limit w.limit = ap (λ (x : Hand). x.limit) is in omega (arith, limit);
+  known = known;
+}
+
+pub second_same : (v u : Hand) → v.raises ≡ false → IsSame v (both_of (unused_of v) (parted (rest_of v) u))
+second_same v u plain = record {
+  draws = plus_none v.draws;
+  tickets = refl;
+  answered = refl;
+  drawn = append-nil v.drawn;
+  raises = refl;
+  limit = omega arith;
+  known = λ yes. absurd (true≢false (sym yes ∙ plain));
 }

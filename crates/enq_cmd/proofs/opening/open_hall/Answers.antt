@@ -48,6 +48,7 @@ returns-in-Ok-open-clause-opened g c =
       read = landed_read _ _ _ _ land c.in-Ok.ensures.reads c.in-Ok.ensures.exact;
       known = refl;
       first = c.in-Ok-open.ensures.state ∙ ap (λ is. opened land.max_locks land.max_marks is t linked c.in-Ok-open.hall.state.stored) c.into_vec.ensures;
+      intervals = landed_intervals land (landed_limits _ _ _ _ land c.in-Ok.ensures.reads);
       sound = c.in-Ok-open.ensures.sound;
       stored = c.in-Ok-open.ensures.stored;
       fits = subst (λ is. FitRows is c.in-Ok-open.hall.state.stored.levels) c.into_vec.ensures c.in-Ok-open.ensures.fits;

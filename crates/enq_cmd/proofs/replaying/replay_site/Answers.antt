@@ -1,10 +1,10 @@
-use Rattle.std.proofs.Common.{◌≡◌, true, inl, refl, sym, ap, ◌∙◌, subst}
+use Rattle.std.proofs.Common.{◌≡◌, true, inl, inr, refl, sym, ap, ◌∙◌, subst}
 use Rattle.std.specs.Prelude.{IfSome, is_some}
 use Rattle.enq_base.specs.declared.condition.Bad.TheVariants as bad
 use Rattle.hall_model.specs.Unsound.{is_unsound_file, is_unsound_store}
 use Rattle.script_runner.specs.Replay.{seen}
 use Rattle.script_runner.specs.Faults.{is_link_fault}
-use Rattle.enq_cmd.proofs.Served.{link_quiet, none_answered, none_linked, run_kind, run_linked, run_place, served_by, still_by, unserved}
+use Rattle.enq_cmd.proofs.Served.{link_quiet, none_answered, none_linked, run_document, run_kind, run_linked, run_place, served_by, still_by, unserved}
 use Rattle.enq_cmd.proofs.Tellings.{HasRun, completes_as, first_sound, never_bad, served_seen}
 use Rattle.enq_cmd.specs.Main.{found_in, left_in}
 use Rattle.enq_cmd.proofs.replaying.replay_site.Goals as goal
@@ -53,6 +53,13 @@ returns-in-Ok-clause-served g c =
           (left_in may_leave g.D.Disk.may_leave g.L.Link.applied c.make_ended.result.site.keeper c.make_ended.result.site.disk c.make_ended.result.site.link)
           _ _ _ _ _ _ _ from to (sym c.make_ended.ensures.why) served.0);
     })
+
+pub returns-in-Ok-clause-no_landing : goal.returns-in-Ok-clause-no_landing
+returns-in-Ok-clause-no_landing g c (inl moved) = absurd (moved c.in-Ok.ensures.steady)
+returns-in-Ok-clause-no_landing g c (inr bad) =
+    absurd (run_document c.make_ended.result.why
+    (run_kind c.in-Ok.hall.state c.replay-why.new.hall.state _ _ _ c.replay-why.result c.make_ended.result.why c.make_ended.ensures.why
+    c.replay-why.ensures.run) bad)
 
 pub returns-in-Err-clause-served : goal.returns-in-Err-clause-served
 returns-in-Err-clause-served g c =

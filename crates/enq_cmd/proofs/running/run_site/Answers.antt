@@ -20,9 +20,24 @@ pub run-hall-requires-clause-free : goal.run-hall-requires-clause-free
 run-hall-requires-clause-free g c = λ κs within. first_free c.in-Ok.ensures.opened.land _ _ c.in-Ok.hall.state.stored c.in-Ok.hall.state
     c.in-Ok.ensures.opened.first
 
+pub run-hall-requires-clause-opened : goal.run-hall-requires-clause-opened
+run-hall-requires-clause-opened g c = λ κs within.
+    let o = c.in-Ok.ensures.opened in record {
+      max_locks = o.land.max_locks;
+      mark_limit = o.land.max_marks;
+      intervals = o.land.ranges;
+      told = is_some (g.K.Keeper.held c.args.site.keeper);
+      linked = is_some (g.L.Link.applied c.args.site.link);
+      is = o.first;
+      known = o.intervals;
+      fits = o.fits;
+      sound = o.sound;
+    }
+
 pub returns-in-Ok-clause-words : goal.returns-in-Ok-clause-words
 returns-in-Ok-clause-words g c =
-    not_words c.make_ended.result.why (subst IsThreadsEnd (sym c.make_ended.ensures.why) (threads_kind _ _ _ _ _ _ c.run-hall.result.1 c.run-hall.ensures.runs))
+    not_words c.make_ended.result.why
+    (subst IsThreadsEnd (sym c.make_ended.ensures.why) (threads_kind _ _ _ _ _ _ _ c.run-hall.result.2 c.run-hall.ensures.runs))
 
 pub returns-in-Ok-clause-threads : goal.returns-in-Ok-clause-threads
 returns-in-Ok-clause-threads g c =
@@ -44,7 +59,8 @@ returns-in-Ok-clause-threads g c =
     (applied c.make_ended.result.site.link)
     (subst (λ l. c.run-hall.result.0.state.attached ≡ true → IfSome (applied l) (λ list. list ≡ c.run-hall.result.0.state.locks))
     (sym c.make_ended.ensures.link) c.into_site-keeper.ensures.replica)
-    c.as_slice.result.now c.as_slice.ensures c.args.workers _ _ _ _ _ _ _ _ c.run-hall.result.1 c.make_ended.result.why c.make_ended.ensures.why
+    c.as_slice.result.now c.as_slice.ensures c.args.workers _ _ _ _ _ _ _ _ c.run-hall.result.1.items c.make_ended.result.drawn c.make_ended.ensures.drawn
+    c.run-hall.result.2 c.make_ended.result.why c.make_ended.ensures.why
     c.run-hall.ensures.runs)
 
 pub returns-in-Ok-clause-told : goal.returns-in-Ok-clause-told
@@ -64,18 +80,18 @@ returns-in-Ok-clause-bad_landscape g c bytes left broken breaks =
 pub returns-in-Ok-clause-broken_rule : goal.returns-in-Ok-clause-broken_rule
 returns-in-Ok-clause-broken_rule g c bytes left =
     threads_broken bytes c.make_ended.result.why
-    (subst IsThreadsEnd (sym c.make_ended.ensures.why) (threads_kind _ _ _ _ _ _ c.run-hall.result.1 c.run-hall.ensures.runs))
+    (subst IsThreadsEnd (sym c.make_ended.ensures.why) (threads_kind _ _ _ _ _ _ _ c.run-hall.result.2 c.run-hall.ensures.runs))
 
 pub returns-in-Ok-clause-unfit_interval : goal.returns-in-Ok-clause-unfit_interval
 returns-in-Ok-clause-unfit_interval g c =
     threads_unfit _ _ _ c.make_ended.result.why
-    (subst IsThreadsEnd (sym c.make_ended.ensures.why) (threads_kind _ _ _ _ _ _ c.run-hall.result.1 c.run-hall.ensures.runs))
+    (subst IsThreadsEnd (sym c.make_ended.ensures.why) (threads_kind _ _ _ _ _ _ _ c.run-hall.result.2 c.run-hall.ensures.runs))
 
 pub returns-in-Ok-clause-no_landing : goal.returns-in-Ok-clause-no_landing
 returns-in-Ok-clause-no_landing g c (inl moved) = absurd (moved c.in-Ok.ensures.steady)
 returns-in-Ok-clause-no_landing g c (inr bad) =
     absurd (threads_document c.make_ended.result.why
-    (subst IsThreadsEnd (sym c.make_ended.ensures.why) (threads_kind _ _ _ _ _ _ c.run-hall.result.1 c.run-hall.ensures.runs)) bad)
+    (subst IsThreadsEnd (sym c.make_ended.ensures.why) (threads_kind _ _ _ _ _ _ _ c.run-hall.result.2 c.run-hall.ensures.runs)) bad)
 
 pub returns-in-Ok-clause-line_fault : goal.returns-in-Ok-clause-line_fault
 returns-in-Ok-clause-line_fault g c bytes left =
@@ -94,7 +110,7 @@ returns-in-Ok-clause-complete g c bytes left script document told_document other
     let kept_link = c.make_ended.ensures.link ∙ c.into_site-keeper.ensures.link in
     let history = c.make_ended.ensures.past ∙ c.into_site-keeper.ensures.past in
     ends_whole (may_leave c.args.site.keeper) c.make_ended.result.past c.make_ended.result.why
-    (λ is. ap length history ∙ threads_full _ _ _ _ _ _ c.run-hall.result.1 c.run-hall.ensures.runs (sym c.make_ended.ensures.why ∙ is))
+    (λ is. ap length history ∙ threads_full _ _ _ _ _ _ _ c.run-hall.result.2 c.run-hall.ensures.runs (sym c.make_ended.ensures.why ∙ is))
     (subst EndsWhole (sym c.make_ended.ensures.why) (c.run-hall.ensures.complete bytes left script calm quiet
     (still_by (faults c.in-Ok.hall.keeper) (faults c.run-hall.result.0.keeper) (faults c.args.site.keeper) (faults c.make_ended.result.site.keeper) o.counts
     (ap faults (sym kept)) stays)
@@ -105,15 +121,15 @@ returns-in-Ok-clause-complete g c bytes left script document told_document other
 pub returns-in-Ok-clause-full : goal.returns-in-Ok-clause-full
 returns-in-Ok-clause-full g c is =
     ap length (c.make_ended.ensures.past ∙ c.into_site-keeper.ensures.past)
-    ∙ threads_full _ _ _ _ _ _ c.run-hall.result.1 c.run-hall.ensures.runs (sym c.make_ended.ensures.why ∙ is)
+    ∙ threads_full _ _ _ _ _ _ _ c.run-hall.result.2 c.run-hall.ensures.runs (sym c.make_ended.ensures.why ∙ is)
 
 pub returns-in-Ok-clause-source_fault : goal.returns-in-Ok-clause-source_fault
 returns-in-Ok-clause-source_fault g c is =
-    inr (threads_source _ _ _ _ _ _ c.run-hall.result.1 c.run-hall.ensures.runs (sym c.make_ended.ensures.why ∙ is))
+    inr (threads_source _ _ _ _ _ _ _ c.run-hall.result.2 c.run-hall.ensures.runs (sym c.make_ended.ensures.why ∙ is))
 
 pub returns-in-Ok-clause-sink_fault : goal.returns-in-Ok-clause-sink_fault
 returns-in-Ok-clause-sink_fault g c is =
-    threads_sink _ _ _ _ _ _ c.run-hall.result.1 c.run-hall.ensures.runs (sym c.make_ended.ensures.why ∙ is)
+    threads_sink _ _ _ _ _ _ _ c.run-hall.result.2 c.run-hall.ensures.runs (sym c.make_ended.ensures.why ∙ is)
 
 pub returns-in-Ok-clause-store_fault : goal.returns-in-Ok-clause-store_fault
 returns-in-Ok-clause-store_fault g c call is =
@@ -178,10 +194,10 @@ returns-in-Ok-clause-bad_store g c =
     let kept_link = c.make_ended.ensures.link ∙ c.into_site-keeper.ensures.link in
     let history = c.make_ended.ensures.past ∙ c.into_site-keeper.ensures.past in
     threads_place (held c.make_ended.result.site.keeper) c.make_ended.result.why
-    (subst IsThreadsEnd (sym c.make_ended.ensures.why) (threads_kind _ _ _ _ _ _ c.run-hall.result.1 c.run-hall.ensures.runs))
+    (subst IsThreadsEnd (sym c.make_ended.ensures.why) (threads_kind _ _ _ _ _ _ _ c.run-hall.result.2 c.run-hall.ensures.runs))
     (λ yes table row is.
     let told = sym c.run-hall.ensures.told ∙ ap (λ k. is_some (held k)) (sym kept) ∙ yes in
-    threads_store _ _ _ _ _ _ c.run-hall.result.1 table row c.run-hall.ensures.runs (sym c.make_ended.ensures.why ∙ is)
+    threads_store _ _ _ _ _ _ _ c.run-hall.result.2 table row c.run-hall.ensures.runs (sym c.make_ended.ensures.why ∙ is)
     (threads_sound held may_leave faults g.D.Disk.tells g.D.Disk.reads g.D.Disk.may_leave disk_faults applied g.L.Link.faults g.L.Link.refusals _
     c.args.site.keeper c.args.site.disk c.args.site.link c.in-Ok.hall c.in-Ok.objects o
     c.run-hall.result.0 c.make_ended.result.site.keeper c.make_ended.result.site.disk c.make_ended.result.site.link kept kept_disk kept_link
@@ -199,7 +215,7 @@ returns-in-Ok-clause-bad_backup g c on is_told place is =
     let kept_disk = c.make_ended.ensures.disk ∙ c.into_site-keeper.ensures.disk in
     let kept_link = c.make_ended.ensures.link ∙ c.into_site-keeper.ensures.link in
     let history = c.make_ended.ensures.past ∙ c.into_site-keeper.ensures.past in
-    absurd (threads_file _ _ _ _ _ _ c.run-hall.result.1 place c.run-hall.ensures.runs (sym c.make_ended.ensures.why ∙ is)
+    absurd (threads_file _ _ _ _ _ _ _ c.run-hall.result.2 place c.run-hall.ensures.runs (sym c.make_ended.ensures.why ∙ is)
     (threads_good held may_leave faults g.D.Disk.tells g.D.Disk.reads g.D.Disk.may_leave disk_faults applied g.L.Link.faults g.L.Link.refusals _
     c.args.site.keeper c.args.site.disk c.args.site.link c.in-Ok.hall c.in-Ok.objects o
     c.run-hall.result.0 c.make_ended.result.site.keeper c.make_ended.result.site.disk c.make_ended.result.site.link kept kept_disk kept_link
@@ -207,20 +223,20 @@ returns-in-Ok-clause-bad_backup g c on is_told place is =
 
 pub returns-in-Ok-clause-bad_file : goal.returns-in-Ok-clause-bad_file
 returns-in-Ok-clause-bad_file g c is_told none place is =
-    absurd (threads_file _ _ _ _ _ _ c.run-hall.result.1 place c.run-hall.ensures.runs (sym c.make_ended.ensures.why ∙ is)
+    absurd (threads_file _ _ _ _ _ _ _ c.run-hall.result.2 place c.run-hall.ensures.runs (sym c.make_ended.ensures.why ∙ is)
     ∣ none_answered is_unsound_file c.run-hall.result.0.state.past (sym (c.make_ended.ensures.past ∙ c.into_site-keeper.ensures.past) ∙ none) ∣₁)
 
 pub returns-in-Ok-clause-no_start : goal.returns-in-Ok-clause-no_start
 returns-in-Ok-clause-no_start g c =
     threads_last _ c.make_ended.result.why
-    (subst IsThreadsEnd (sym c.make_ended.ensures.why) (threads_kind _ _ _ _ _ _ c.run-hall.result.1 c.run-hall.ensures.runs))
+    (subst IsThreadsEnd (sym c.make_ended.ensures.why) (threads_kind _ _ _ _ _ _ _ c.run-hall.result.2 c.run-hall.ensures.runs))
 
 pub returns-in-Err-clause-threads : goal.returns-in-Err-clause-threads
 returns-in-Err-clause-threads g c =
     unthreaded g.K.Keeper.held g.K.Keeper.may_leave g.K.Keeper.faults g.D.Disk.tells g.D.Disk.reads g.D.Disk.may_leave g.D.Disk.faults
     g.L.Link.applied c.args.workers _ _ _ c.args.script.now c.args.sink.now
-    c.args.site.keeper c.in-Err.ended.site.keeper c.args.site.disk c.in-Err.ended.site.disk c.args.site.link c.in-Err.ended.site.link _ _ _ _ _ _ _ _
-    c.in-Err.ensures.past c.in-Err.ensures.linked c.in-Err.ensures.unserved
+    c.args.site.keeper c.in-Err.ended.site.keeper c.args.site.disk c.in-Err.ended.site.disk c.args.site.link c.in-Err.ended.site.link _ _ _ _ _ _ _ _ _
+    c.in-Err.ensures.past c.in-Err.ensures.drawn c.in-Err.ensures.linked c.in-Err.ensures.unserved
 
 pub returns-in-Err-clause-line_fault : goal.returns-in-Err-clause-line_fault
 returns-in-Err-clause-line_fault g c bytes left =

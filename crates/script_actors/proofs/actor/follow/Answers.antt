@@ -1,6 +1,6 @@
 use Rattle.std.proofs.Common.{sym}
 use Rattle.script_runner.specs.declared.preparing.Prepared.TheVariants.{Changed}
-use Rattle.script_actors.proofs.ActorLines.{followed_kept, followed_settled, may_follow}
+use Rattle.script_actors.proofs.LineSteps.{followed_kept, followed_settled, may_follow}
 use Rattle.script_actors.proofs.actor.follow.Goals as goal
 
 pub returns-then-keeps_side : goal.returns-then-keeps_side
