@@ -1,0 +1,50 @@
+#!/bin/sh
+# Times a script whose four sessions commit units with V1 parts of 200 effects, done by threads with four workers beside one: a
+# part is worked outside the turn, so that four workers are to be no slower. The two go by turns, each over a new folder; one in
+# memory (/dev/shm) leaves the disk out. Told are the medians of the times and of those on processors, and what was counted at the
+# end, which has to be the same. Ends with status 1 where it differs. It wants /usr/bin/time, and enqd built; ENQD names another
+# in its place.
+# Usage: bench/parts.sh [UNITS OF EACH SESSION] [FOLDER] [ROUNDS]; at most 240 units.
+set -eu
+bench=$(cd "$(dirname "$0")" && pwd)
+enqd=${ENQD:-$(cd "$bench/../crates/enqd" && pwd)/out/enqd}
+units=${1:-60}
+rounds=${3:-9}
+folder=$(mktemp -d "${2:-/dev/shm}/parts.XXXXXX")
+trap 'rm -rf "$folder"' EXIT
+
+script() {
+    awk -v units="$units" 'BEGIN {
+        for (s = 1; s <= 4; s++) print "S" s " LOGON U" s
+        for (n = 1; n <= units; n++) {
+            for (s = 1; s <= 4; s++) {
+                for (e = 1; e <= 200; e++) print "S" s " V1 PUT T " s "-" n "-" e " TEXT OF SOME LENGTH " e
+                print "S" s " COMMIT"
+            }
+        }
+        print "? AUDIT"
+    }'
+}
+
+# Does the script with so many workers in a new folder, and adds its seconds and those on processors to a file.
+timed() {
+    mkdir "$folder/place"
+    cp "$bench/../demo/landscape.toml" "$folder/place"
+    (cd "$folder/place" && /usr/bin/time -a -o "$folder/workers_$1" -f '%e %U %S' "$enqd" run --workers "$1" < "$folder/script" > "$folder/replies")
+    rm -rf "$folder/place"
+    grep -o 'UNITS .*' "$folder/replies" | tail -n 1
+}
+
+medians() {
+    awk '{ print $1 }' "$folder/workers_$1" | sort -n | awk '{ times[NR] = $1 } END { printf "%.2f s, ", times[int((NR + 1) / 2)] }'
+    awk '{ print $2 + $3 }' "$folder/workers_$1" | sort -n | awk '{ times[NR] = $1 } END { printf "%.2f on processors", times[int((NR + 1) / 2)] }'
+}
+
+echo "processors: $(nproc), load: $(cut -d ' ' -f 1 /proc/loadavg), units of each session: $units"
+script > "$folder/script"
+for round in $(seq "$rounds"); do
+    four=$(timed 4)
+    one=$(timed 1)
+    [ "$four" = "$one" ]
+done
+echo "four workers: $(medians 4); one: $(medians 1); $four"
