@@ -23,7 +23,7 @@ struct Request {
     std::size_t table_length;
     char table[30];
     std::size_t argument_length;
-    char argument[150];
+    char argument[255];
     char mode;
 };
 

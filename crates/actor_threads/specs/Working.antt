@@ -11,7 +11,8 @@ use Rattle.caller_laws.specs.Doing.{DidAs, Known, Left}
 use Rattle.gauges.specs.Boards.{seen}
 use Rattle.actor_threads.specs.declared.actor.Actor.{Actor}
 use Rattle.actor_threads.specs.declared.actor.Deed.{Deed}
-use Rattle.turn_desks.specs.Stocks.{AreSeatsAt, StockFact, are_of_stocks, draws_of, drawn_of, left_in, numbered, numbers_by}
+use Rattle.turn_desks.specs.Stocks.{AreSeatsAt, StockFact, are_of_stocks, draws_of, drawn_of, left_in, numbered}
+use Rattle.turn_desks.specs.Stocks.{numbers_by}
 use Rattle.turn_desks.specs.Weaving.{Noted, desk_entries, noted}
 use Rattle.turn_desks.specs.declared.names.LockName.{Ghosts as Names}
 use Rattle.turn_desks.specs.declared.serving.Serving.{Ghosts as Stocks}

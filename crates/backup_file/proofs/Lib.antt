@@ -2,7 +2,14 @@ pub mod Fields
 pub mod Handover
 pub mod Names
 pub mod ReadBack
-pub mod WithEntries
 pub mod Opened
-pub mod ReadOn
 pub mod lemmas
+pub mod Compacts
+pub mod ReadLogs
+pub mod ReadVersions
+pub mod Sizes
+pub mod SlotBytes
+pub mod Compacted
+pub mod Laying
+pub mod Migrated
+pub mod Planned

@@ -1,5 +1,5 @@
 -- What an open backup file keeps.
-use Rattle.std.specs.Prelude.{◌≡◌, ℕ, ◌≤◌, Bool, List, [], ◌∷◌, ◌++◌, IsTrue, Result, Ok, Err, IsErrOf}
+use Rattle.std.specs.Prelude.{◌≡◌, ℕ, ◌≤◌, Bool, true, List, [], ◌∷◌, ◌++◌, IsTrue, Result, Ok, Err, IsErrOf}
 use Rattle.enq_base.specs.Causes.{Rose}
 use Rattle.enq_base.specs.declared.owner.UnitKey.{UnitKey}
 use Rattle.gate_log.specs.Gates.{IsAtRest}
@@ -11,17 +11,18 @@ use Rattle.enq_base.specs.declared.unit_id.UnitId.{UnitId}
 use Rattle.backup_file.specs.Handing.{handed_of}
 use Rattle.backup_file.specs.Lists.{AreUnits, is_known}
 use Rattle.backup_file.specs.Spelling.{IsRecord, spelling}
-use Rattle.backup_file.specs.File.{Stands, IsFront}
+use Rattle.backup_file.specs.File.{IsFront, Stands, compact}
 use Rattle.lock_entry.specs.Names.{has_distinct_names}
 use Rattle.lock_entry.specs.declared.entry.Entry.{Entry}
 
 -- the disk, where the closed gate stands, the units whose lists stand, in no order, for how many more there is room,
--- and whether a write has failed
+-- whether the log in force is known to have one hand of each list and no other record, and whether a write has failed
 pub record BackupView (D : Type 0) : Type 0 where
   pub disk : D
   pub gate : ℕ
   pub units : List UnitId
   pub room : ℕ
+  pub compact : Bool
   pub failed : Bool
 
 -- the same file, but for the room that it has
@@ -29,9 +30,10 @@ pub record IsSame {D : Type 0} (old new : BackupView D) : Type 0 where
   pub disk : new.disk ≡ old.disk
   pub gate : new.gate ≡ old.gate
   pub units : (u : UnitKey) → is_known u new.units ≡ is_known u old.units
+  pub compact : new.compact ≡ old.compact
   pub failed : new.failed ≡ old.failed
 
--- the file, as read and in every image, stands for these lists, and may be written
+-- the file is of version 2, stands, as read and in every image, for these lists, and may be written
 pub record IsReady {D : Type 0} (reads : D → List ℕ) (may_leave : D → List ℕ → Type 0) (b : BackupView D)
     (l : List Handed) : Type 0 where
   pub stands : Stands (reads b.disk) l
@@ -39,6 +41,7 @@ pub record IsReady {D : Type 0} (reads : D → List ℕ) (may_leave : D → List
   pub is_front : IsFront front l
   pub at_rest : IsAtRest (reads b.disk) (may_leave b.disk) b.gate front
   pub units : AreUnits b.units l
+  pub compact : b.compact ≡ true → is_front.1.log ≡ compact l
 
 -- P, unless the disk failed
 abbrev pub UnlessFailed : {T : Type 0} → Result T WriteFault → Type 0 → Type 0

@@ -6,7 +6,8 @@ use Rattle.enq_base.specs.declared.owner.UnitKey.{UnitKey}
 use Rattle.enq_base.specs.declared.owner.Owner.TheVariants.{Upd}
 use Rattle.lock_entry.specs.declared.entry.Entry.{Entry}
 use Rattle.backup_file.specs.declared.handed.Handed.{Handed}
-use Rattle.backup_file.specs.Spelling.{user_of}
+use Rattle.backup_file.specs.declared.handed.Record.TheVariants.{Hand}
+use Rattle.backup_file.specs.Spelling.{IsRecord, user_of}
 use Rattle.mode_rules.specs.Modes.{mode_number}
 use Rattle.lock_entry.specs.Names.{has_distinct_names}
 
@@ -44,3 +45,8 @@ as_handed user e =
 -- the list as the file has it: each entry is handed, and has the user of the first
 abbrev pub handed_of : UnitKey → List Entry → Handed
 handed_of unit entries = record { unit = unit; entries = map (as_handed (user_of entries)) entries }
+
+-- a list as a hand record of the file may have it
+pub record IsList (h : Handed) : Type 0 where
+  pub is_record : IsRecord (Hand h)
+  pub distinct : IsTrue (has_distinct_names h.entries)

@@ -7,4 +7,8 @@ pub mod File
 pub mod Opening
 pub mod Handing
 pub mod Backup
-pub mod ReadOn
+pub mod Slots
+pub mod ReadLogs
+pub mod Compacting
+pub mod Migrating
+pub mod Plans

@@ -1,6 +1,6 @@
 -- The lists that units handed over, and what the records of a file do to them.
 use Rattle.std.specs.Prelude.{◌≡◌, ◌<◌, Bool, not, cond, List, [], ◌∷◌, ◌++◌, filter, length, IsTrue}
-use Rattle.std.specs.List.{All, list_any}
+use Rattle.std.specs.List.{All, fold, list_any}
 use Rattle.enq_base.specs.Owners.{same_unit}
 use Rattle.enq_base.specs.declared.owner.UnitKey.{UnitKey}
 use Rattle.lock_entry.specs.Names.{has_distinct_names}
@@ -57,3 +57,7 @@ abbrev pub hands : List Record → List Handed
 hands [] = []
 hands (Hand h ∷ rs) = cond (is_touched h.unit rs) (hands rs) (h ∷ hands rs)
 hands (Free u ∷ rs) = hands rs
+
+-- the lists that stand behind these records
+abbrev pub lists_behind : List Record → List Handed
+lists_behind records = fold after [] records

@@ -1,13 +1,14 @@
 -- Opening a file.
-use Rattle.std.specs.Prelude.{◌≡◌, ℕ, ◌≤◌, List, length, Result, Ok, Err, IsErrOf}
+use Rattle.std.specs.Prelude.{◌≡◌, ◌⊎◌, ℕ, ◌≤◌, List, Result, Ok, Err, IsErrOf}
+use Rattle.backup_file.specs.File.{Stands}
+use Rattle.backup_file.specs.declared.handed.Handed.{Handed}
 use Rattle.enq_base.specs.Causes.{Rose}
-use Rattle.gate_log.specs.Gates.{IsShut, IsAtRest}
 use Rattle.gate_log.specs.declared.fault.LogFault.{LogFault}
 use Rattle.gate_log.specs.declared.fault.LogFault.TheVariants as log
+use Rattle.backup_file.specs.declared.fault.WriteFault.{WriteFault}
+use Rattle.backup_file.specs.declared.fault.WriteFault.TheVariants as write
 use Rattle.backup_file.specs.declared.fault.BackFault.{BackFault}
 use Rattle.backup_file.specs.declared.fault.BackFault.TheVariants.{Failed, Bad, NoMemory}
-use Rattle.backup_file.specs.declared.handed.Handed.{Handed}
-use Rattle.backup_file.specs.File.{IsFront}
 
 -- P of the offset, where the bytes stand for nothing
 abbrev pub OnBad : (ℕ → Type 0) → BackFault → Type 0
@@ -15,10 +16,19 @@ OnBad P Failed = Unit {0}
 OnBad P (Bad at) = P at
 OnBad P NoMemory = Unit {0}
 
+-- each image is one from before, or stands for these lists
+abbrev pub StandsLater : (before now : List ℕ → Type 0) → List Handed → Type 0
+StandsLater before now l = (c : List ℕ) → now c → before c ⊎ Stands c l
+
 -- why a file could not be read, as a fault of opening it
 abbrev pub fault_of : LogFault → BackFault
 fault_of log.Failed = Failed
 fault_of log.NoMemory = NoMemory
+
+-- and as a fault of writing it
+abbrev pub write_fault_of : LogFault → WriteFault
+write_fault_of log.Failed = write.Failed
+write_fault_of log.NoMemory = write.NoMemory
 
 -- P, unless the disk failed
 abbrev pub UnlessFailed : {T : Type 0} → Result T BackFault → Type 0 → Type 0
@@ -38,16 +48,3 @@ abbrev pub CountsFault : BackFault → ℕ → ℕ → Type 0
 CountsFault Failed before now = (before ≤ now) × Rose before now
 CountsFault (Bad at) before now = now ≡ before
 CountsFault NoMemory before now = now ≡ before
-
--- behind the records that lead to these lists a closed gate stands at this offset
-pub record IsRead (bytes : List ℕ) (gate : ℕ) (l : List Handed) : Type 0 where
-  pub front : List ℕ
-  pub is_front : IsFront front l
-  pub shut : IsShut front bytes
-  pub place : length front ≡ gate
-
--- the file stands for these lists with a closed gate at this offset, and all of it is on the disk
-pub record IsOpened (bytes : List ℕ) (images : List ℕ → Type 0) (gate : ℕ) (l : List Handed) : Type 0 where
-  pub front : List ℕ
-  pub is_front : IsFront front l
-  pub at_rest : IsAtRest bytes images gate front

@@ -5,14 +5,16 @@ ghost use Rattle.gate_log.specs.Gates.{IsShut, IsAtRest};
 ghost use Rattle.backup_file.specs.declared.handed.Handed.{Handed};
 ghost use Rattle.backup_file.specs.declared.handed.Record.TheVariants.{Hand, Free};
 ghost use Rattle.backup_file.specs.Lists.{AreUnits, HaveEntries, after, has_unit, is_known};
-ghost use Rattle.backup_file.specs.File.{Stands, IsBad, IsShort, IsLong, Keeps, new_file};
-ghost use Rattle.backup_file.specs.Opening.{CountsFault, OnBad};
+ghost use Rattle.backup_file.specs.File.{Stands, IsBad, IsNoOlder, IsShort, IsVersion2, Keeps, first_file};
+ghost use Rattle.backup_file.specs.Plans.{IsDone, IsLeftCompact, OnNoMemory};
+ghost use Rattle.backup_file.specs.Opening.{CountsFault, OnBad, StandsLater};
 ghost use Rattle.backup_file.specs.Handing.{IsHandable, handed_of};
 ghost use Rattle.backup_file.specs.Backup.{IsHandFor, IsReady, IsSame, HasWriteCause};
 ghost use Rattle.enq_base.specs.Owners.{same_unit};
 ghost use Rattle.enq_base.specs.declared.owner.UnitKey.{UnitKey};
 ghost use Rattle.lock_entry.specs.declared.entry.Entry.{Entry};
 
+use crate::compact_log::compact_log;
 use crate::fault::{BackFault, WriteFault};
 use crate::handed::Handed;
 use crate::opening::open_file;
@@ -51,6 +53,7 @@ pub struct Backup<D> {
     disk: D,
     gate: u64,
     units: HashSet<UnitId>,
+    compact: bool,
     failed: bool,
 }
 
@@ -60,13 +63,20 @@ impl<D> Model for Backup<D> {
 
     ghost Value = { BackupView D };
 
-    ghost view = { λ b. record
-        { disk = b.disk; gate = b.gate; units = b.units.keys; room = spare b.units; failed = b.failed } };
+    ghost view = { λ b. record {
+      disk = b.disk;
+      gate = b.gate;
+      units = b.units.keys;
+      room = spare b.units;
+      compact = b.compact;
+      failed = b.failed;
+    } };
 }
 
 impl<D: Disk> Backup<D> {
     /// Opens the file of a disk, and gives the lists in the order of their hands. A file of at most 9 bytes stands for
-    /// no lists, whatever it holds, and is written anew. An error gives the disk back.
+    /// no lists, whatever it holds, and is written anew. One of version 1 becomes one of version 2. An error gives the
+    /// disk back.
     pub fn open(alloc: Global, disk: D) -> Result<(Backup<D>, Vec<Handed>), (BackFault, D)>
         ensures lists { IsTrue D.tells → IfOk result (λ found. Stands (D.reads disk) found.1.items) }
         ensures ready { IsTrue D.tells
@@ -75,8 +85,8 @@ impl<D: Disk> Backup<D> {
         ensures some { IfOk result (λ found. HaveEntries found.1.items) }
         ensures fresh { IfOk result (λ found. found.0.failed ≡ false) }
         ensures anew { IsTrue D.tells → IsShort (D.reads disk)
-            → IfOk result (λ found. D.reads found.0.disk ≡ new_file) }
-        ensures stays { IsTrue D.tells → IsLong (D.reads disk)
+            → IfOk result (λ found. D.reads found.0.disk ≡ first_file) }
+        ensures stays { IsTrue D.tells → (l : List Handed) → IsVersion2 (D.reads disk) l
             → IfOk result (λ found. D.reads found.0.disk ≡ D.reads disk) }
 
         // Where the file stands for nothing its bytes stay.
@@ -87,6 +97,11 @@ impl<D: Disk> Backup<D> {
         ensures images { IsTrue D.tells → MatchResult result
             (λ found. Follows Keeps (D.may_leave disk) (D.may_leave found.0.disk))
             (λ e. Follows Keeps (D.may_leave disk) (D.may_leave e.1)) }
+
+        // One that wasn't possible before the call stands for the lists for which the file stood.
+        ensures lasting { IsTrue D.tells → (l : List Handed) → Stands (D.reads disk) l → MatchResult result
+            (λ found. StandsLater (D.may_leave disk) (D.may_leave found.0.disk) l)
+            (λ e. StandsLater (D.may_leave disk) (D.may_leave e.1) l) }
         ensures quiet { IfOk result (λ found. D.faults found.0.disk ≡ D.faults disk) }
         ensures cause { IfErr result (λ e. CountsFault e.0 (D.faults disk) (D.faults e.1)) }
     {
@@ -106,6 +121,7 @@ impl<D: Disk> Backup<D> {
             disk,
             gate: 0,
             units: HashSet::new(alloc),
+            compact: false,
             failed: true,
         }
     }
@@ -121,9 +137,10 @@ impl<D: Disk> Backup<D> {
         ensures fresh { OnOk result (self.new.failed ≡ false) }
         ensures shut { OnErr result (self.new.failed ≡ true) }
         ensures anew { IsTrue D.tells → IsShort (D.reads self.old.disk)
-            → OnOk result (D.reads self.new.disk ≡ new_file) }
-        ensures stays { IsTrue D.tells → IsLong (D.reads self.old.disk)
+            → OnOk result (D.reads self.new.disk ≡ first_file) }
+        ensures stays { IsTrue D.tells → (l : List Handed) → IsVersion2 (D.reads self.old.disk) l
             → OnOk result (D.reads self.new.disk ≡ D.reads self.old.disk) }
+        ensures worn { IsTrue D.tells → OnOk result (IsNoOlder (D.reads self.old.disk) (D.reads self.new.disk)) }
 
         // Where the file stands for nothing its bytes stay.
         ensures bad { IsTrue D.tells
@@ -132,6 +149,8 @@ impl<D: Disk> Backup<D> {
 
         // Each image stands for the lists of an image before the call.
         ensures images { IsTrue D.tells → Follows Keeps (D.may_leave self.old.disk) (D.may_leave self.new.disk) }
+        ensures lasting { IsTrue D.tells → (l : List Handed) → Stands (D.reads self.old.disk) l
+            → StandsLater (D.may_leave self.old.disk) (D.may_leave self.new.disk) l }
         ensures quiet { OnOk result (D.faults self.new.disk ≡ D.faults self.old.disk) }
         ensures cause { IfErr result (λ fault. CountsFault fault (D.faults self.old.disk) (D.faults self.new.disk)) }
     {
@@ -140,6 +159,7 @@ impl<D: Disk> Backup<D> {
             Ok(found) => {
                 self.gate = found.gate;
                 self.units = found.units;
+                self.compact = found.compact;
                 self.failed = false;
                 Ok(found.lists)
             }
@@ -253,6 +273,8 @@ impl<D: Disk> Backup<D> {
         ensures units { OnOk result
             ((other : UnitKey) → is_known other
             self.new.units ≡ (not (same_unit unit.now other) && is_known other self.old.units)) }
+        ensures worn { IsTrue D.tells → (l : List Handed) → IsReady D.reads D.may_leave self.old l
+            → OnOk result (IsNoOlder (D.reads self.old.disk) (D.reads self.new.disk)) }
         ensures usable { OnOk result (self.new.failed ≡ false) }
         ensures failed { OnErr result (self.new.failed ≡ true) }
 
@@ -269,6 +291,7 @@ impl<D: Disk> Backup<D> {
     /// Adds a record: an open gate, the record and a closed gate.
     fn add(&mut self, text: &[u8]) -> Result<(), Failed>
         requires { 1 ≤ length text.now }
+        ensures unknown { self.new.compact ≡ false }
         ensures units { self.new.units ≡ self.old.units }
         ensures room { self.new.room ≡ self.old.room }
         ensures usable { OnOk result (self.new.failed ≡ self.old.failed) }
@@ -284,6 +307,7 @@ impl<D: Disk> Backup<D> {
             → (c : List ℕ) → D.may_leave self.new.disk c → IsShut front c ⊎ IsShut (front ++ 1 ∷ body) c }
         ensures cause { HasCause (D.faults self.old.disk) (D.faults self.new.disk) result }
     {
+        self.compact = false;
         match add_record(&mut self.disk, self.gate, text) {
             Ok(gate) => {
                 self.gate = gate;
@@ -302,6 +326,7 @@ impl<D: Disk> Backup<D> {
             → is_known other self.new.units ≡ (same_unit unit.now other || is_known other self.old.units) }
         ensures disk { self.new.disk ≡ self.old.disk }
         ensures gate { self.new.gate ≡ self.old.gate }
+        ensures compact { self.new.compact ≡ self.old.compact }
         ensures failed { self.new.failed ≡ self.old.failed }
     {
         let _ = self.units.insert(id_of(unit));
@@ -312,9 +337,51 @@ impl<D: Disk> Backup<D> {
             → is_known other self.new.units ≡ (not (same_unit unit.now other) && is_known other self.old.units) }
         ensures disk { self.new.disk ≡ self.old.disk }
         ensures gate { self.new.gate ≡ self.old.gate }
+        ensures compact { self.new.compact ≡ self.old.compact }
         ensures failed { self.new.failed ≡ self.old.failed }
     {
         forget(&mut self.units, unit);
+    }
+
+    /// Writes the log in force anew where it has more than one hand of each list, unless its generation is the last
+    /// one: the file then stands for the same lists. It takes its memory before any write. After `Failed` only
+    /// `reopen` and `into_disk` are allowed.
+    pub fn compact(&mut self, alloc: Global) -> Result<(), WriteFault>
+        requires usable { self.old.failed ≡ false }
+        ensures ready { IsTrue D.tells → (l : List Handed) → IsReady D.reads D.may_leave self.old l
+            → OnOk result (IsReady D.reads D.may_leave self.new l) }
+        ensures done { IsTrue D.tells → (l : List Handed) → IsReady D.reads D.may_leave self.old l
+            → OnOk result (IsLeftCompact (D.reads self.old.disk) (D.reads self.new.disk) l) }
+        // Where there is nothing to do the bytes stay.
+        ensures still { IsTrue D.tells → (l : List Handed) → IsReady D.reads D.may_leave self.old l
+            → IsDone (D.reads self.old.disk) l → OnOk result (D.reads self.new.disk ≡ D.reads self.old.disk) }
+        ensures kept { IsTrue D.tells → (l : List Handed) → IsReady D.reads D.may_leave self.old l
+            → OnNoMemory result (IsReady D.reads D.may_leave self.new l) }
+        ensures units { self.new.units ≡ self.old.units }
+        ensures usable { OnOk result (self.new.failed ≡ false) }
+        ensures failed { IsErrOf result WriteFault.Failed → self.new.failed ≡ true }
+
+        // Whatever a crash leaves stands for the same lists.
+        ensures images { IsTrue D.tells → (l : List Handed) → IsReady D.reads D.may_leave self.old l
+            → (c : List ℕ) → D.may_leave self.new.disk c → Stands c l }
+        ensures cause { HasWriteCause (D.faults self.old.disk) (D.faults self.new.disk) result }
+    {
+        if self.compact {
+            return Ok(());
+        }
+        match compact_log(alloc, &mut self.disk) {
+            Ok(Some(gate)) => {
+                self.gate = gate;
+                self.compact = true;
+                Ok(())
+            }
+            Ok(None) => Ok(()),
+            Err(WriteFault::Failed) => {
+                self.failed = true;
+                Err(WriteFault::Failed)
+            }
+            Err(WriteFault::NoMemory) => Err(WriteFault::NoMemory),
+        }
     }
 
     /// Whether the list of a unit stands. It takes no memory.
@@ -334,6 +401,7 @@ impl<D: Disk> Backup<D> {
             disk,
             gate: _,
             units,
+            compact: _,
             failed: _,
         } = self;
         let _ = units;

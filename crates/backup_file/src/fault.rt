@@ -83,6 +83,19 @@ impl From<enq_base::NoMemory> for WriteFault {
     }
 }
 
+impl From<LogFault> for WriteFault {
+    ghost use Rattle.backup_file.specs.Opening.{write_fault_of};
+
+    ghost from_gives = { λ f e. e ≡ write_fault_of f };
+
+    fn from(fault: LogFault) -> WriteFault {
+        match fault {
+            LogFault::Failed => WriteFault::Failed,
+            LogFault::NoMemory => WriteFault::NoMemory,
+        }
+    }
+}
+
 impl From<AllocError> for WriteFault {
     ghost from_gives = { λ _ e. e ≡ write_faults.NoMemory };
 

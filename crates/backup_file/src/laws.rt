@@ -2,7 +2,7 @@ ghost use Rattle.std.specs.Prelude.{◌≡◌, ℕ, List};
 ghost use Rattle.backup_file.specs.File.{Stands, IsBad};
 ghost use Rattle.backup_file.specs.declared.handed.Handed.{Handed};
 
-/// Bytes stand for one list of lists at most, or break at one offset.
+/// In either version bytes stand for one list of lists at most, or break at one offset.
 pub fn one_meaning()
     ensures stands { (bytes : List ℕ) (l m : List Handed) → Stands bytes l → Stands bytes m → l ≡ m }
     ensures breaks { (bytes : List ℕ) (at here : ℕ) → IsBad bytes at → IsBad bytes here → at ≡ here }

@@ -1,5 +1,5 @@
 ghost use Rattle.std.specs.Prelude.{◌≡◌};
-ghost use Rattle.std.specs.Int.{w16, w32, to_be_bytes};
+ghost use Rattle.std.specs.Int.{w16, w32, w64, to_be_bytes};
 
 use byteorder::{BigEndian, ByteOrder};
 
@@ -16,5 +16,13 @@ pub(crate) fn bytes_of_32(number: u32) -> [u8; 4]
 {
     let mut bytes = [0; 4];
     BigEndian::write_u32(&mut bytes, number);
+    bytes
+}
+
+pub(crate) fn bytes_of_64(number: u64) -> [u8; 8]
+    ensures { result ≡ to_be_bytes w64 number }
+{
+    let mut bytes = [0; 8];
+    BigEndian::write_u64(&mut bytes, number);
     bytes
 }

@@ -1,10 +1,10 @@
-ghost use Rattle.std.specs.Prelude.{◌≡◌, ◌<◌, ◌≤◌, ◌^◌, ◌++◌, ◌∷◌, [], List, length, take, OnOk, IfOk, IsTrue};
+ghost use Rattle.std.specs.Prelude.{◌≡◌, ◌<◌, ◌++◌, ◌∷◌, [], length, OnOk, IfOk, IsTrue};
 ghost use Rattle.std.specs.List.{flat_map, AllByRecursion};
 ghost use Rattle.enq_base.specs.Grammar.{is_name, is_pattern};
 ghost use Rattle.backup_file.specs.declared.handed.Record.TheVariants.{Hand, Free};
-ghost use Rattle.backup_file.specs.Spelling.{unit_bytes, short, entry_bytes, spelling, IsUnit, IsRecord, user_of, hand_bytes};
+ghost use Rattle.backup_file.specs.Spelling.{unit_bytes, short, entry_bytes, IsUnit, IsRecord, hand_bytes};
 ghost use Rattle.gate_log.specs.Logs.{opened};
-ghost use Rattle.backup_file.specs.File.{grammar};
+ghost use Rattle.backup_file.specs.File.{log_grammar};
 ghost use Rattle.backup_file.specs.Handing.{HasNames, IsHandable, handed_of};
 
 use crate::numbers::{bytes_of_16, bytes_of_32};
@@ -31,7 +31,7 @@ fn text_of_unit(unit: &UnitKey) -> [u8; 12]
 
 /// An open gate, the free record of a unit, and a closed gate.
 pub fn free_text(unit: &UnitKey) -> [u8; 19]
-    ensures spelled { result ≡ opened grammar (Free unit.now) ++ 0 ∷ [] }
+    ensures spelled { result ≡ opened log_grammar (Free unit.now) ++ 0 ∷ [] }
     ensures is_record { IsRecord (Free unit.now) }
 {
     let [a, b, c, d, e, f, g, h, i, j, k, l] = text_of_unit(unit);
@@ -107,10 +107,10 @@ fn hand_payload(alloc: Global, unit: &UnitKey, entries: &[Entry]) -> Result<Vec<
     Ok(out)
 }
 
-/// An open gate, the hand record of a unit, and a closed gate.
-pub fn hand_text(alloc: Global, unit: &UnitKey, entries: &[Entry]) -> Result<Vec<u8>, NoMemory>
+/// An open gate, and the hand record of a unit.
+pub fn hand_record(alloc: Global, unit: &UnitKey, entries: &[Entry]) -> Result<Vec<u8>, NoMemory>
     requires { IsHandable unit.now entries.now }
-    ensures spelled { IfOk result (λ v. v.items ≡ opened grammar (Hand (handed_of unit.now entries.now)) ++ 0 ∷ []) }
+    ensures spelled { IfOk result (λ v. v.items ≡ opened log_grammar (Hand (handed_of unit.now entries.now))) }
     ensures is_record { OnOk result (IsRecord (Hand (handed_of unit.now entries.now))) }
 {
     let payload = hand_payload(alloc, unit, entries)?;
@@ -118,6 +118,17 @@ pub fn hand_text(alloc: Global, unit: &UnitKey, entries: &[Entry]) -> Result<Vec
     text.extend_from_slice(&[1, 1])?;
     text.extend_from_slice(&bytes_of_32(payload.len() as u32))?;
     text.extend_from_slice(&payload)?;
+    Ok(text)
+}
+
+/// An open gate, the hand record of a unit, and a closed gate.
+pub fn hand_text(alloc: Global, unit: &UnitKey, entries: &[Entry]) -> Result<Vec<u8>, NoMemory>
+    requires { IsHandable unit.now entries.now }
+    ensures spelled { IfOk result
+        (λ v. v.items ≡ opened log_grammar (Hand (handed_of unit.now entries.now)) ++ 0 ∷ []) }
+    ensures is_record { OnOk result (IsRecord (Hand (handed_of unit.now entries.now))) }
+{
+    let mut text = hand_record(alloc, unit, entries)?;
     text.push(0)?;
     Ok(text)
 }

@@ -71,7 +71,12 @@ const BROKEN: [(&str, &str, u8, u32); 50] = [
     ("width = 3", "width = 256", 7, 1),
     ("keys = [\"MANDT\", ", "keys = [\"BUKRS\", ", 8, 1),
     ("keys = [\"MANDT\", \"ORDNR\"]", "keys = []", 8, 1),
-    ("width = 3", "width = 141", 8, 1),
+    (
+        "width = 3 }, { name = \"ORDNR\", width = 10 }",
+        "width = 150 }, { name = \"ORDNR\", width = 106 }",
+        8,
+        1,
+    ),
     (
         "[[object.table]]",
         "[[object.table]]\nname = \"ZORDER\"\nkeys = [\"MANDT\"]\n[[object.table]]",

@@ -162,8 +162,8 @@ fn an_object_is_refused_for_its_first_fault(rt: HostRuntime) -> Result<(), Fail>
     Ok(())
 }
 
-/// A field F of this width and one of one byte.
-fn a_field_and_a_byte(alloc: Global, width: u8, byte: &[u8]) -> Result<Vec<Field>, Fail>
+/// The fields F of 150 bytes and G of these many.
+fn a_long_field_and_another(alloc: Global, width: u8) -> Result<Vec<Field>, Fail>
     requires least { 1 ≤ width }
     requires most { width ≤ 150 }
     ensures { IfOk result (λ v. IsTrue (list_all has_width v.items)) }
@@ -171,28 +171,28 @@ fn a_field_and_a_byte(alloc: Global, width: u8, byte: &[u8]) -> Result<Vec<Field
     let fields = [
         Field {
             name: name(b"F")?,
-            width,
+            width: 150,
         },
         Field {
-            name: name(byte)?,
-            width: 1,
+            name: name(b"G")?,
+            width,
         },
     ];
     Ok(Vec::from_slice(alloc, &fields)?)
 }
 
-fn is_wide(alloc: Global, width: u8, wanted: Result<Name, ObjectFault>) -> Result<bool, Fail>
+fn is_long(alloc: Global, width: u8, wanted: Result<Name, ObjectFault>) -> Result<bool, Fail>
     requires least { 1 ≤ width }
     requires most { width ≤ 150 }
 {
-    let fields = a_field_and_a_byte(alloc, width, b"G")?;
+    let fields = a_long_field_and_another(alloc, width)?;
     Ok(made_of(alloc, fields, "T:F G")? == wanted)
 }
 
 #[test]
-fn an_argument_has_at_most_150_bytes(rt: HostRuntime) -> Result<(), Fail> {
+fn an_argument_has_at_most_255_bytes(rt: HostRuntime) -> Result<(), Fail> {
     let object = name(b"EOBJ")?;
-    assert!(rt; is_wide(rt.alloc(), 150, Err(ObjectFault::TooLong(151)))?);
-    assert!(rt; is_wide(rt.alloc(), 149, Ok(object))?);
+    assert!(rt; is_long(rt.alloc(), 106, Err(ObjectFault::TooLong(256)))?);
+    assert!(rt; is_long(rt.alloc(), 105, Ok(object))?);
     Ok(())
 }

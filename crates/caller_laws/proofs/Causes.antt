@@ -9,7 +9,8 @@ use Rattle.hall_laws.proofs.keeping.Unchanged.{step_begins}
 use Rattle.hall_calls.specs.Leaving.{HasCounted}
 use Rattle.hall_model.specs.declared.command.Reply.{Reply}
 use Rattle.hall_model.specs.declared.command.Reply.TheVariants as reply
-use Rattle.hall_model.specs.Devices.{AllWell, BackupFails, Event, FindsBad, FindsBadStore, LinkFails, MeetsWant, NotRemade, RemakeFault, StoreFails, Wanting, fault_told, is_file_failure, is_store_failure}
+use Rattle.hall_model.specs.Devices.{AllWell, BackupFails, Event, FindsBad, FindsBadStore, LinkFails, MeetsWant, NotRemade, RemakeFault, StoreFails, Wanting}
+use Rattle.hall_model.specs.Devices.{fault_told, is_file_failure, is_store_failure}
 use Rattle.hall_model.specs.Recall.{HasBegun, Made, recalled, state_after}
 use Rattle.hall_model.specs.State.{State, doubt_in}
 use Rattle.script_runner.specs.Faults.{answer_at, tells_other}

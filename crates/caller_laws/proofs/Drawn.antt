@@ -20,8 +20,11 @@ use Rattle.hall_model.specs.declared.command.Who.{Who}
 use Rattle.hall_model.specs.declared.command.Who.TheVariants as who
 use Rattle.number_ranges.specs.Intervals.{is_buffered, is_named}
 use Rattle.number_ranges.specs.declared.interval.Interval.{Interval}
-use Rattle.script_actors.specs.Actors.{Deeds, DeskView, DoesLine, DoesLines, Given, IsGiven, IsGivenFor, Land, acts, asks, deeds, drawing, is_stop, lines_of_actor, no_deeds, own_meaning, saying, with_answer, with_number}
-use Rattle.script_actors.specs.Drawings.{Asking, Called, Declined, DeskCall, DeskEntry, Drawing, Draws, Drew, IsDrawing, Makes, Ready, Refused, Reserved, Unkept, asking, calls_in, calls_of, drawing_at, drawn_at, drawn_in, interval_at, number_in, stock_of, uncommitted, with_called}
+use Rattle.script_actors.specs.Actors.{Deeds, DeskView, DoesLine, DoesLines, Given, IsGiven, IsGivenFor, Land, acts, asks, deeds, drawing, is_stop}
+use Rattle.script_actors.specs.Actors.{lines_of_actor, no_deeds, own_meaning, saying, with_answer, with_number}
+use Rattle.script_actors.specs.Drawings.{Asking, Called, Declined, DeskCall, DeskEntry, Drawing, Draws, Drew, IsDrawing, Makes, Ready, Refused, Reserved}
+use Rattle.script_actors.specs.Drawings.{Unkept, asking, calls_in, calls_of, drawing_at, drawn_at, drawn_in, interval_at, number_in, stock_of, uncommitted}
+use Rattle.script_actors.specs.Drawings.{with_called}
 use Rattle.script_actors.specs.declared.actor.Said.{Said}
 use Rattle.script_actors.specs.declared.drawing.Drawing.{Drawing as Drawn}
 use Rattle.script_actors.specs.declared.line.NumberedLine.{NumberedLine}

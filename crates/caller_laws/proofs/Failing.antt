@@ -9,7 +9,8 @@ use Rattle.hall_laws.proofs.keeping.Unchanged.{Becomes, step_becomes}
 use Rattle.hall_model.specs.Calls.{call_of}
 use Rattle.hall_model.specs.declared.command.Command.{Command}
 use Rattle.hall_model.specs.declared.command.Reply.TheVariants as reply
-use Rattle.hall_model.specs.Devices.{AllWell, BackupFails, DeviceOutcome, Event, FindsBad, FindsBadStore, LinkFails, MeetsWant, NotRemade, Reading, RemakeFault, StoreFails, Wanting, fault_told, found_by}
+use Rattle.hall_model.specs.Devices.{AllWell, BackupFails, DeviceOutcome, Event, FindsBad, FindsBadStore, LinkFails, MeetsWant, NotRemade, Reading, RemakeFault}
+use Rattle.hall_model.specs.Devices.{StoreFails, Wanting, fault_told, found_by}
 use Rattle.hall_model.specs.History.{doubted, in_flight_after, losing, noted, refused, step}
 use Rattle.hall_model.specs.State.{State, doubt_in}
 use Rattle.hall_model.specs.Step.{call_verdict}

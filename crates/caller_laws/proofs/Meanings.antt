@@ -25,7 +25,9 @@ use Rattle.script_actors.specs.Doers.{is_done_by, is_same}
 use Rattle.script_lang.specs.declared.script_line.RawValue.{RawValue}
 use Rattle.script_lang.specs.declared.script_line.ScriptLine.{ScriptLine}
 use Rattle.script_lang.specs.declared.script_line.ScriptLine.TheVariants as line
-use Rattle.script_runner.specs.Lines.{Silent, Shows, Calls, Declines, Changes, Meaning, and_next, asking, collected, collecting, effect_of, key_in, key_with, meaning, number_in, of_session, reading, registered, registering, requesting, text_in, then_deed, unless_refused, with_asked, with_requested}
+use Rattle.script_runner.specs.Lines.{Silent, Shows, Calls, Declines, Changes, Meaning, and_next, asking, collected, collecting, effect_of, key_in, key_with}
+use Rattle.script_runner.specs.Lines.{meaning, number_in, of_session, reading, registered, registering, requesting, text_in, then_deed, unless_refused}
+use Rattle.script_runner.specs.Lines.{with_asked, with_requested}
 use Rattle.script_runner.specs.Sides.{side_of, variables_of}
 use Rattle.script_runner.specs.World.{Setting}
 
@@ -168,7 +170,8 @@ line_is_from x (line.Enq s object m scope values) =
 line_is_from x (line.Deq s object m scope values) =
     of_requested x (IsFrom (line.Deq s object m scope values)) s object m scope values (λ rs. Calls (command.Free s rs)) (λ rs. tt)
 line_is_from x (line.Collect s object m scope values) =
-    of_requested x (IsFrom (line.Collect s object m scope values)) s object m scope values (collecting x.sides s) (λ rs. of_change (IsFrom (line.Collect s object m scope values)) (collected x.sides s rs))
+    of_requested x (IsFrom (line.Collect s object m scope values)) s object m scope values (collecting x.sides s)
+    (λ rs. of_change (IsFrom (line.Collect s object m scope values)) (collected x.sides s rs))
 line_is_from x (line.Convert s object values) =
     of_asked x (IsFrom (line.Convert s object values)) s object mode.O values (λ asked. Calls (command.Convert s asked)) (λ asked. tt)
 line_is_from x (line.Num s object nr variable) = of_one (IsFrom (line.Num s object nr variable)) x.sides s _ (variable, refl)

@@ -15,7 +15,8 @@ use Rattle.hall_model.specs.declared.command.Who.TheVariants as who
 use Rattle.number_ranges.specs.Intervals.{is_buffered}
 use Rattle.number_ranges.specs.declared.interval.Interval.{Interval}
 use Rattle.script_actors.specs.Actors.{AddsPart, Deeds, DeskView, DoesLine, DoesLines, Given, IsGiven, IsGivenFor, Land, acts, asks, deeds, drawing, lines_of_actor, no_deeds, own_meaning, session_of}
-use Rattle.script_actors.specs.Drawings.{Asking, Called, Declined, DeskCall, DeskEntry, Draws, Drew, IsDrawing, Makes, Ready, Refused, Reserved, Unkept, asking, calls_in, calls_of, drawing_at, interval_at, uncommitted, with_called}
+use Rattle.script_actors.specs.Drawings.{Asking, Called, Declined, DeskCall, DeskEntry, Draws, Drew, IsDrawing, Makes, Ready, Refused, Reserved, Unkept, asking}
+use Rattle.script_actors.specs.Drawings.{calls_in, calls_of, drawing_at, interval_at, uncommitted, with_called}
 use Rattle.script_actors.specs.Doers.{is_done_by}
 use Rattle.script_actors.specs.declared.actor.Said.{Said}
 use Rattle.script_actors.specs.declared.line.NumberedLine.{NumberedLine}

@@ -1,5 +1,5 @@
-//! Laws of the one history of threads: whose calls it has, of each actor those of its lines, of each worker those of its loop; when
-//! workers rest in the end, and that no unit waits then; and of which device's failure a doubt is told.
+//! Laws of the one history of threads: whose calls it has, of each actor those of its lines, of each worker those of its
+//! loop; when workers rest in the end, and that no unit waits then; and of which device's failure a doubt is told.
 #![tactic(auto)]
 
 mod doubting;

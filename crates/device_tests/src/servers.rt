@@ -163,7 +163,7 @@ fn the_table_is_made_anew_from_the_file(rt: HostRuntime) -> Result<(), Fail> {
     check(&rt, rt.alloc(), &NEW, &MADE_ANEW)
 }
 
-const FAILING: Devices = (b"", &[8], &[]);
+const FAILING: Devices = (b"", &[12], &[]);
 
 const READ_ANEW: [Life; 1] = [(
     &[],

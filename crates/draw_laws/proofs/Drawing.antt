@@ -1,5 +1,6 @@
 -- What sessions have drawn stays right as they draw.
-use Rattle.std.proofs.Common.{◌≡◌, inl, inr, ℕ, zero, suc, ◌+◌, ◌≤◌, ◌<◌, Bool, true, false, true≢false, cond, ◌||◌, nat_eq, nat_lt, List, [], ◌∷◌, ◌++◌, map, length, Some, if◌then◌else◌, refl, sym, ap, subst, ◌∙◌, arith}
+use Rattle.std.proofs.Common.{◌≡◌, inl, inr, ℕ, zero, suc, ◌+◌, ◌≤◌, ◌<◌, Bool, true, false, true≢false, cond, ◌||◌, nat_eq, nat_lt, List, [], ◌∷◌, ◌++◌, map}
+use Rattle.std.proofs.Common.{length, Some, if◌then◌else◌, refl, sym, ap, subst, ◌∙◌, arith}
 use Rattle.std.specs.Prelude.{Contains, count_by, sum_by}
 use Rattle.std.specs.List.{AllByRecursion, list_any, range_with_len}
 use Rattle.std.proofs.lemmas.Bool.{eqb-true}
@@ -11,7 +12,8 @@ use Rattle.module_effects.specs.Rows.{RowName}
 use Rattle.number_ranges.specs.Intervals.{is_buffered, is_named}
 use Rattle.number_ranges.specs.declared.interval.Interval.{Interval}
 use Rattle.update_records.specs.Ledger.{Levels}
-use Rattle.ledger_steps.specs.Drawn.{AreDrawnRight, AreOfOne, IsDrawnAs, IsDrawnBuffered, IsDrawnPlain, IsDrawnRight, IsOfOne, IsRun, drawn_from, drawn_of, handed_out, has_drawn, num_of, times, times_given}
+use Rattle.ledger_steps.specs.Drawn.{AreDrawnRight, AreOfOne, IsDrawnAs, IsDrawnBuffered, IsDrawnPlain, IsDrawnRight, IsOfOne, IsRun, drawn_from, drawn_of}
+use Rattle.ledger_steps.specs.Drawn.{handed_out, has_drawn, num_of, times, times_given}
 use Rattle.ledger_steps.specs.Levels.{AreApart, AreIntervals, FitLevels, intervals_of, level_in, name_of, present, range_at}
 use Rattle.ledger_steps.specs.declared.range.NumberRange.{NumberRange}
 use Rattle.draw_laws.proofs.Counting.{all_append, bit, count_append, count_cons, run_append}

@@ -13,7 +13,8 @@ use Rattle.ledger_steps.specs.Intervals.{with_levels}
 use Rattle.update_records.specs.Intervals.{level_of}
 use Rattle.update_records.specs.Ledger.{Levels}
 use Rattle.update_records.specs.RecordRows.{Level}
-use Rattle.ledger_steps.specs.Drawn.{AreDrawnRight, AreOfOne, IsDrawnAs, IsDrawnBuffered, IsDrawnPlain, IsDrawnRight, IsRun, drawn_of, has_drawn, is_settled_by, settled_rows, stored_as, times, times_given}
+use Rattle.ledger_steps.specs.Drawn.{AreDrawnRight, AreOfOne, IsDrawnAs, IsDrawnBuffered, IsDrawnPlain, IsDrawnRight, IsRun, drawn_of, has_drawn, is_settled_by}
+use Rattle.ledger_steps.specs.Drawn.{settled_rows, stored_as, times, times_given}
 use Rattle.ledger_steps.specs.Levels.{FitLevels, IsRowOf, intervals_of, level_in, name_of, present}
 use Rattle.ledger_steps.specs.declared.range.NumberRange.{NumberRange}
 use Rattle.draw_laws.proofs.Counting.{all_append, all_of, all_right, bit, none_counted}

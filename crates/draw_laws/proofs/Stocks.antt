@@ -1,5 +1,6 @@
 -- What sessions have drawn stays right as one of them has numbers of a stock beside what it drew.
-use Rattle.std.proofs.Common.{◌≡◌, ℕ, ◌+◌, ◌≤◌, ◌<◌, ◌^◌, Bool, true, false, true≢false, cond, max, nat_eq, List, [], ◌∷◌, ◌++◌, map, Some, if◌then◌else◌, append_assoc, refl, sym, ap, subst, ◌∙◌, arith}
+use Rattle.std.proofs.Common.{◌≡◌, ℕ, ◌+◌, ◌≤◌, ◌<◌, ◌^◌, Bool, true, false, true≢false, cond, max, nat_eq, List, [], ◌∷◌, ◌++◌, map, Some, if◌then◌else◌}
+use Rattle.std.proofs.Common.{append_assoc, refl, sym, ap, subst, ◌∙◌, arith}
 use Rattle.std.specs.Prelude.{Contains, IsSomeAnd, count_by}
 use Rattle.std.specs.List.{AllByRecursion, filter, find}
 use Rattle.std.proofs.lemmas.Bool.{eqb-true}
@@ -8,7 +9,8 @@ use Rattle.number_ranges.specs.Intervals.{is_buffered, is_named}
 use Rattle.number_ranges.specs.declared.interval.Interval.{Interval}
 use Rattle.update_records.specs.Business.{interval_of}
 use Rattle.update_records.specs.Ledger.{Levels}
-use Rattle.ledger_steps.specs.Drawn.{AreDrawnRight, AreOfOne, IsDrawnAs, IsDrawnBuffered, IsDrawnRight, IsReserved, IsStock, IsUpToLevel, is_settled_by, num_of, passed, passed_by, settled_rows, stored_as, times, times_given, with_level_behind}
+use Rattle.ledger_steps.specs.Drawn.{AreDrawnRight, AreOfOne, IsDrawnAs, IsDrawnBuffered, IsDrawnRight, IsReserved, IsStock, IsUpToLevel, is_settled_by, num_of}
+use Rattle.ledger_steps.specs.Drawn.{passed, passed_by, settled_rows, stored_as, times, times_given, with_level_behind}
 use Rattle.ledger_steps.specs.Levels.{AreIntervals, FitLevels, intervals_of, name_of, present}
 use Rattle.ledger_steps.specs.declared.range.NumberRange.{NumberRange}
 use Rattle.draw_laws.proofs.Counting.{all_of, bit, count_cons}

@@ -2,7 +2,7 @@
 pub const NAME_BYTES: usize = 30;
 
 /// The most bytes of a lock argument.
-pub const ARGUMENT_BYTES: usize = 150;
+pub const ARGUMENT_BYTES: usize = 255;
 
 /// The most bytes of a field's value, as it stands in a line.
 pub const VALUE_BYTES: usize = 150;

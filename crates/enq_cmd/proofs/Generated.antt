@@ -1,5 +1,6 @@
 -- The script that is made from a number is in order.
-use Rattle.std.proofs.Common.{◌≡◌, ◌≢◌, ℕ, zero, suc, ◌+◌, ◌-◌, ◌*◌, ◌≤◌, ◌<◌, ◌^◌, true, false, List, [], ◌∷◌, ◌++◌, length, replicate, refl, sym, ap, ◌∙◌, subst, arith, codes, decimal, nat_eq, append_assoc, length-append, lit<, ne_eqb}
+use Rattle.std.proofs.Common.{◌≡◌, ◌≢◌, ℕ, zero, suc, ◌+◌, ◌-◌, ◌*◌, ◌≤◌, ◌<◌, ◌^◌, true, false, List, [], ◌∷◌, ◌++◌, length, replicate, refl, sym, ap, ◌∙◌}
+use Rattle.std.proofs.Common.{subst, arith, codes, decimal, nat_eq, append_assoc, length-append, lit<, ne_eqb}
 use Rattle.std.specs.Prelude.{IsTrue, is_some, flat_map, nat_le}
 use Rattle.std.specs.List.{AllByRecursion, list_all, range_with_len}
 use Rattle.std.proofs.lemmas.Bool.{and_parts, and_from, le-leb}
@@ -12,7 +13,8 @@ use Rattle.enq_base.proofs.lemmas.Numbers.{digits_model}
 use Rattle.enq_base.specs.Grammar.{is_digit, is_key_byte, is_name, is_name_byte, is_text_byte}
 use Rattle.enq_base.specs.declared.owner.Scope.TheVariants.{Two}
 use Rattle.io_edge.specs.Lines.{lines_of, onto_first}
-use Rattle.load_gen.specs.Script.{commit_line, header_line, item_line, line_text, lines_by, lines_of_unit, lock_line, logon_line, logon_lines, number_line, order_digits, script_of, session, session_of, statistics_line, text_of, unit_lines, work_lines}
+use Rattle.load_gen.specs.Script.{commit_line, header_line, item_line, line_text, lines_by, lines_of_unit, lock_line, logon_line, logon_lines, number_line}
+use Rattle.load_gen.specs.Script.{order_digits, script_of, session, session_of, statistics_line, text_of, unit_lines, work_lines}
 use Rattle.mode_rules.specs.declared.Mode.TheVariants.{E}
 use Rattle.script_lang.proofs.lemmas.Again.{line_again}
 use Rattle.script_lang.specs.Spelling.{Spells}
@@ -24,7 +26,8 @@ use Rattle.script_runner.specs.LineFaults.{IsFirstBad, IsFirstLong, IsToBlame}
 use Rattle.script_runner.specs.Lines.{line_in}
 use Rattle.script_runner.specs.Whole.{IsGood, IsScript}
 use Rattle.script_runner.specs.declared.runner.Why.{Why}
-use Rattle.script_runner.specs.declared.runner.Why.TheVariants.{Done, BadWords, BadLandscape, BadLine, SourceFault, SinkFault, LongLine, ManyLines, StoreFault, BackupFault, BadStore, BadBackup, NoStart, NoMemory, LogFull}
+use Rattle.script_runner.specs.declared.runner.Why.TheVariants.{Done, BadWords, BadLandscape, BadLine, SourceFault, SinkFault, LongLine, ManyLines, StoreFault}
+use Rattle.script_runner.specs.declared.runner.Why.TheVariants.{BackupFault, BadStore, BadBackup, NoStart, NoMemory, LogFull}
 
 -- ---- bytes of a line
 

@@ -28,11 +28,12 @@ use Rattle.hall_calls.proofs.lemmas.StoreRead.{bad_is_not_good}
 use Rattle.hall_model.specs.declared.command.PastEntry.{PastEntry}
 use Rattle.hall.specs.declared.opening.HallFault.{HallFault}
 use Rattle.hall.specs.declared.opening.HallFault.TheVariants as fault
-use Rattle.hall.specs.Faults.{CountsFileFault, CountsHallFault, IsBadFile, IsHallFault, LeavesFileOf, MayBeHallFault, OnBadStore, OnKept, OnStore, StoodUnfit, StoodUnlike}
+use Rattle.hall.specs.Faults.{CountsFileFault, CountsHallFault, FreesUnlike, IsBadFile, IsHallFault, LeavesFileOf, MayBeHallFault, OnBadStore, OnKept, OnStore, StoodUnfit, StoodUnlike}
 use Rattle.script_runner.specs.Replay.{Seen}
 use Rattle.script_runner.specs.declared.runner.Why.{Why}
 use Rattle.script_runner.specs.declared.runner.Why.TheVariants.{BadBackup}
-use Rattle.enq_cmd.specs.Main.{CountsFiling, CountsOpening, EndsComplete, FitAll, HasNoStart, StoodAtLast, IsBadStore, IsGoodFile, IsOpeningEnd, IsRead, IsUnfitEnd, IsUnopened, MayRemain, MayRemainFiled, OnStoreEnd, TellsBadFile, land_end, opening_end}
+use Rattle.enq_cmd.specs.Main.{CountsFiling, CountsOpening, EndsComplete, FitAll, FreesOthersOf, HasNoStart, StoodAtLast, IsBadStore, IsGoodFile, IsOpeningEnd}
+use Rattle.enq_cmd.specs.Main.{IsRead, IsUnfitEnd, IsUnopened, MayRemain, MayRemainFiled, OnStoreEnd, TellsBadFile, land_end, opening_end}
 
 opening_ends : (f : HallFault) → MayBeHallFault f → IsOpeningEnd (opening_end f)
 opening_ends fault.Store h = refl
@@ -91,21 +92,26 @@ store_end fault.NoStart P h = h
 store_end (fault.Interval row) P h = h
 store_end fault.NoMemory P h = tt
 
-remains_filed : (f : HallFault) (t : Bool) (o : Option Rows) (before : Rows → Type 0) (images images_now : List ℕ → Type 0) → is_some o ≡ t
-    → LeavesFileOf o before f images images_now → MayRemainFiled t before (opening_end f) images images_now
-remains_filed fault.Store t o before images images_now told h = h
-remains_filed fault.Backup t o before images images_now told h = record {
+freed_of : (t : Bool) (o : Option Rows) (before : Rows → Type 0) (images images_now : List ℕ → Type 0) → is_some o ≡ t
+    → FreesUnlike o before images images_now → FreesOthersOf t before images images_now
+freed_of t o before images images_now told h = record {
   ledger = h.ledger;
   sound = h.sound;
   stood = λ yes. told_left o (IsRaised (HasStood before) true h.ledger) (subst (λ b. IsTrue b) (sym told) yes) h.stood;
   frees = h.frees;
 }
+
+remains_filed : (f : HallFault) (t : Bool) (o : Option Rows) (before : Rows → Type 0) (images images_now : List ℕ → Type 0) → is_some o ≡ t
+    → LeavesFileOf o before f images images_now → MayRemainFiled t before (opening_end f) images images_now
+remains_filed fault.Store t o before images images_now told h = h
+remains_filed fault.Backup t o before images images_now told h = freed_of t o before images images_now told h
 remains_filed (fault.Bad (bad.Store table row)) t o before images images_now told h = h
 remains_filed (fault.Bad (bad.Backup place)) t o before images images_now told h = h
 remains_filed (fault.Bad (bad.Replica first second)) t o before images images_now told h = h
 remains_filed fault.NoStart t o before images images_now told h = h
 remains_filed (fault.Interval row) t o before images images_now told h = h
-remains_filed fault.NoMemory t o before images images_now told h = h
+remains_filed fault.NoMemory t o before images images_now told (inl kept) = inl kept
+remains_filed fault.NoMemory t o before images images_now told (inr freed) = inr (freed_of t o before images images_now told freed)
 
 -- what is known of the backup file of a store that isn't opened
 pub record IsFileLeft {D : Type 0} (may_leave : D → List ℕ → Type 0) (tells : Bool) (o : Option Rows) (before : Rows → Type 0) (f : HallFault)

@@ -25,10 +25,12 @@ use Rattle.script_runner.specs.Replay.{RunsScript, Seen, seen}
 use Rattle.script_runner.specs.Replicas.{AreLater, CountsLinkEach, GoesOnLinked, HasLinked, LinkCounts, link_counts}
 use Rattle.script_runner.specs.Shown.{audit_shown}
 use Rattle.script_runner.specs.declared.runner.Why.{Why}
-use Rattle.script_runner.specs.declared.runner.Why.TheVariants.{Done, BadWords, BadLandscape, BadLine, SourceFault, SinkFault, LongLine, ManyLines, StoreFault, BackupFault, BadStore, BadBackup, NoStart, NoMemory, LogFull}
+use Rattle.script_runner.specs.declared.runner.Why.TheVariants.{Done, BadWords, BadLandscape, BadLine, SourceFault, SinkFault, LongLine, ManyLines, StoreFault}
+use Rattle.script_runner.specs.declared.runner.Why.TheVariants.{BackupFault, BadStore, BadBackup, NoStart, NoMemory, LogFull}
 use Rattle.enq_cmd.proofs.Tellings.{HasRun, first_sound, promises_with, served_with, where_told}
 use Rattle.enq_cmd.specs.Writing.{WritesText}
-use Rattle.enq_cmd.specs.Main.{AreServed, EndsComplete, HasLandscape, HasNoStart, IsFaultless, IsBadDocument, IsBadStore, IsFirstBroken, IsLandEnd, IsUnfitEnd, IsServed, IsUnopened, IsUntouched, SiteFound, SiteLeft, first_state, found_in, left_in, made_from}
+use Rattle.enq_cmd.specs.Main.{AreServed, EndsComplete, HasLandscape, HasNoStart, IsFaultless, IsBadDocument, IsBadStore, IsFirstBroken, IsLandEnd, IsUnfitEnd}
+use Rattle.enq_cmd.specs.Main.{IsServed, IsUnopened, IsUntouched, SiteFound, SiteLeft, first_state, found_in, left_in, made_from}
 use Rattle.enq_cmd.specs.Loading.{HasLoaded, IsRunEnd, IsSilent, RunsLoad, ShowsCounts, unheard}
 use Rattle.enq_cmd.specs.Opening.{IsLandedAlone, IsOpened, IsUnlanded}
 

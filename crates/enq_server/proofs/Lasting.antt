@@ -59,6 +59,11 @@ pub listed : (unit : UnitKey) (es : List Entry) (l : List Handed) → 1 ≤ leng
 listed unit [] l some = absurd (omega (arith, some))
 listed unit (e ∷ es) l some = refl
 
+-- where there are none nothing is written
+pub unlisted : (unit : UnitKey) (es : List Entry) (l : List Handed) → length es < 1 → with_list unit es l ≡ l
+unlisted unit [] l none = refl
+unlisted unit (e ∷ es) l none = absurd (omega (arith, none))
+
 pub listed_either : (unit : UnitKey) (es : List Entry) (l : List Handed) (bytes : List ℕ) → 1 ≤ length es → Stands bytes l
     ⊎ Stands bytes (after l (Hand (handed_of unit es))) → Stands bytes l ⊎ Stands bytes (with_list unit es l)
 listed_either unit es l bytes some either = subst (λ m. Stands bytes l ⊎ Stands bytes m) (sym (listed unit es l some)) either

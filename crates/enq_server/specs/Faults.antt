@@ -56,11 +56,12 @@ OnBytes (opening.Bad (bad.Missing unit at)) P = Unit {0}
 OnBytes (opening.Bad (bad.Clash first second)) P = Unit {0}
 OnBytes opening.NoMemory P = Unit {0}
 
--- what old stands for new stands for; only where the disk failed, lists of other units may be gone
+-- what old stands for new stands for; only where the disk failed or memory was wanting lists of other units may be
+-- gone
 abbrev pub Leaves : List UnitLocks → OpenFault → List ℕ → List ℕ → Type 0
 Leaves units opening.Failed old new = FreesOthers units old new
 Leaves units (opening.Bad bad) old new = Keeps old new
-Leaves units opening.NoMemory old new = Keeps old new
+Leaves units opening.NoMemory old new = FreesOthers units old new
 
 -- where the disk failed the count rose, and with any other fault it stands still
 abbrev pub CountsFault : OpenFault → ℕ → ℕ → Type 0

@@ -18,6 +18,7 @@ use Rattle.lock_entry.specs.declared.entry.Entry.{Entry}
 use Rattle.lock_entry.specs.declared.entry.UnitLocks.{UnitLocks}
 use Rattle.backup_file.specs.Backup.{BackupView, IsHandFor, IsReady, ReadyView}
 use Rattle.backup_file.specs.File.{Stands}
+use Rattle.backup_file.specs.Plans.{IsShortened}
 use Rattle.backup_file.specs.Handing.{handed_of}
 use Rattle.backup_file.specs.Lists.{after}
 use Rattle.backup_file.specs.declared.handed.Handed.{Handed}
@@ -56,12 +57,19 @@ abbrev pub replicated : ℕ → List Entry → Table
 replicated limit entries = record { entries = entries; limit = larger limit (length entries) }
 
 -- the bytes stood for lists with which the units agree, and the file is ready with those of these units alone
-pub record IsRecovered {D : Type 0} (reads : D → List ℕ) (may_leave : D → List ℕ → Type 0) (bytes : List ℕ)
+pub record IsFreed {D : Type 0} (reads : D → List ℕ) (may_leave : D → List ℕ → Type 0) (bytes : List ℕ)
     (units : List UnitLocks) (file : BackupView D) : Type 0 where
   pub lists : List Handed
   pub stood : Stands bytes lists
   pub agree : All (Agrees lists) units
   pub ready : IsReady reads may_leave file (lists_among units lists)
+
+-- The same, and the log in force of the file has one hand of each of these lists and no other record, unless the
+-- generation in force was at its end before.
+pub record IsRecovered {D : Type 0} (reads : D → List ℕ) (may_leave : D → List ℕ → Type 0) (bytes : List ℕ)
+    (units : List UnitLocks) (file : BackupView D) : Type 0 where
+  pub freed : IsFreed reads may_leave bytes units file
+  pub shortened : IsShortened bytes (reads file.disk) (lists_among units freed.lists)
 
 -- an S, E or X entry of the unit
 abbrev pub is_lasting : UnitKey → Entry → Bool

@@ -5,15 +5,16 @@ ghost use Rattle.bk_disk.specs.Disk.{Follows};
 ghost use Rattle.lock_entry.specs.Table.{IsLoadFault, IsTable};
 ghost use Rattle.backup_file.specs.Backup.{IsReady};
 ghost use Rattle.backup_file.specs.Lists.{AreUnits};
+ghost use Rattle.backup_file.specs.File.{IsNoOlder};
 ghost use Rattle.backup_file.specs.declared.handed.Handed.{Handed};
 ghost use Rattle.lock_entry.specs.declared.entry.UnitLocks.{UnitLocks};
 ghost use Rattle.enq_server.specs.Faults.{CountsFault, IsOpenFault, IsRecoveryFault, Leaves, OnBytes};
 ghost use Rattle.enq_server.specs.Recovery.{Agrees, AreKnown, ArePlaces, FreesOthers, IsFirstDifference, IsMissing, StandsLess, joined, lists_among, locking};
-ghost use Rattle.enq_server.specs.Server.{IsRecovered, larger, recovered, replicated};
+ghost use Rattle.enq_server.specs.Server.{IsFreed, IsRecovered, larger, recovered, replicated};
 
 use crate::fault::OpenFault;
 use crate::places::{entries_of, is_known, known_units, places_of};
-use backup_file::{Backup, Handed};
+use backup_file::{Backup, Handed, WriteFault};
 use bk_disk::Disk;
 use enq_base::{BackupBad, Failed, NoMemory, UnitId, UnitKey};
 use lock_entry::{Entry, LoadFault, LockStore, UnitLocks};
@@ -178,6 +179,9 @@ fn free_others<D: Disk>(
     ensures images { IsTrue D.tells → (units : List UnitLocks) → AreKnown known.now.keys units
         → IsReady D.reads D.may_leave backup.old lists.now
         → (c : List ℕ) → D.may_leave backup.new.disk c → StandsLess units lists.now c }
+    ensures worn { IsTrue D.tells → (units : List UnitLocks) → AreKnown known.now.keys units
+        → IsReady D.reads D.may_leave backup.old lists.now
+        → OnOk result (IsNoOlder (D.reads backup.old.disk) (D.reads backup.new.disk)) }
     ensures cause { HasCause (D.faults backup.old.disk) (D.faults backup.new.disk) result }
 {
     for handed in lists {
@@ -189,7 +193,7 @@ fn free_others<D: Disk>(
 }
 
 /// Reads the file anew, also one that failed, and makes the table of the units' entries, with which its lists must
-/// agree. Lists of other units are freed.
+/// agree. Lists of other units are freed, and then the log in force is written anew.
 pub fn read_anew<T: LockStore, D: Disk>(
     alloc: Global,
     backup: &mut Backup<D>,
@@ -203,6 +207,45 @@ pub fn read_anew<T: LockStore, D: Disk>(
     ensures known { OnOk result (AreKnown backup.new.units (locking units.now)) }
     ensures file { IsTrue D.tells
         → OnOk result (IsRecovered D.reads D.may_leave (D.reads backup.old.disk) units.now backup.new) }
+    ensures fault { IsTrue D.tells → IfErr result (IsOpenFault (D.reads backup.old.disk) units.now) }
+    ensures bad { IsTrue D.tells
+        → IfErr result (λ fault. OnBytes fault (D.reads backup.new.disk ≡ D.reads backup.old.disk)) }
+    ensures images { IsTrue D.tells → MatchResult result
+        (λ _. Follows (FreesOthers units.now) (D.may_leave backup.old.disk) (D.may_leave backup.new.disk))
+        (λ fault. Follows (Leaves units.now fault) (D.may_leave backup.old.disk) (D.may_leave backup.new.disk)) }
+    ensures quiet { OnOk result (D.faults backup.new.disk ≡ D.faults backup.old.disk) }
+    ensures cause { IfErr result (λ fault. CountsFault fault (D.faults backup.old.disk) (D.faults backup.new.disk)) }
+{
+    let table = match read_freed(alloc, backup, limit, units) {
+        Ok(table) => table,
+        Err(fault) => return Err(fault),
+    };
+    match backup.compact(alloc) {
+        Ok(()) => Ok(table),
+        Err(WriteFault::Failed) => Err(OpenFault::Failed),
+        Err(WriteFault::NoMemory) => {
+            backup.shut();
+            Err(OpenFault::NoMemory)
+        }
+    }
+}
+
+/// Reads the file anew, also one that failed, and makes the table of the units' entries, with which its lists must
+/// agree. Lists of other units are freed.
+fn read_freed<T: LockStore, D: Disk>(
+    alloc: Global,
+    backup: &mut Backup<D>,
+    limit: u32,
+    units: &[UnitLocks],
+) -> Result<T, OpenFault>
+    ensures table { IfOk result (λ table. T.table table ≡ recovered limit units.now) }
+    ensures good { IfOk result (λ table. IsTable (T.table table)) }
+    ensures usable { OnOk result (backup.new.failed ≡ false) }
+    ensures shut { OnErr result (backup.new.failed ≡ true) }
+    ensures known { OnOk result (AreKnown backup.new.units (locking units.now)) }
+    ensures file { IsTrue D.tells
+        → OnOk result (IsFreed D.reads D.may_leave (D.reads backup.old.disk) units.now backup.new) }
+    ensures worn { IsTrue D.tells → OnOk result (IsNoOlder (D.reads backup.old.disk) (D.reads backup.new.disk)) }
     ensures fault { IsTrue D.tells → IfErr result (IsOpenFault (D.reads backup.old.disk) units.now) }
     ensures bad { IsTrue D.tells
         → IfErr result (λ fault. OnBytes fault (D.reads backup.new.disk ≡ D.reads backup.old.disk)) }

@@ -69,8 +69,8 @@ impl<T: LockStore, D: Disk, L: Link> Model for EnqServer<T, D, L> {
 
 impl<T: LockStore, D: Disk, L: Link> EnqServer<T, D, L> {
     /// Opens the file of a disk, with whose lists the entries of the units must agree: these are the table, with the
-    /// larger of `limit` and their number as its limit. Lists of other units are freed. No replica is attached. An
-    /// error gives disk and link back.
+    /// larger of `limit` and their number as its limit. Lists of other units are freed, and then the log in force is
+    /// written anew. No replica is attached. An error gives disk and link back.
     pub fn open(
         alloc: Global,
         disk: D,
@@ -90,7 +90,7 @@ impl<T: LockStore, D: Disk, L: Link> EnqServer<T, D, L> {
         // A file that stands for nothing stays.
         ensures bad { IsTrue D.tells → IfErr result (λ e. OnBytes e.0 (D.reads e.1 ≡ D.reads disk)) }
         // What a crash leaves has the lists as they were, less none, some or all of those of other units. Where the
-        // answer is a fault, but for that of the disk, all are there.
+        // bytes or lists are bad all are there.
         ensures images { IsTrue D.tells → MatchResult result
             (λ s. Follows (FreesOthers units.now) (D.may_leave disk) (D.may_leave s.file.disk))
             (λ e. Follows (Leaves units.now e.0) (D.may_leave disk) (D.may_leave e.1)) }

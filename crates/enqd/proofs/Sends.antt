@@ -36,7 +36,34 @@ use Rattle.std.specs.contracts.fs.File as file
 use Rattle.sqlite_disk.specs.contracts.modelled.Modelled as modelled
 
 pub table_send : IsSend table.the_row
-table_send = declared_send table.the_type (search (sendable, crosses) depth 60 fits 20000, (search (sendable, crosses) depth 60 fits 20000, (search (sendable, crosses) depth 60 fits 20000, (search (sendable, crosses) depth 60 fits 20000, (search (sendable, crosses) depth 60 fits 20000, (search (sendable, crosses) depth 60 fits 20000, (search (sendable, crosses) depth 60 fits 20000, (search (sendable, crosses) depth 60 fits 20000, (search (sendable, crosses) depth 60 fits 20000, (search (sendable, crosses) depth 60 fits 20000, (search (sendable, crosses) depth 60 fits 20000, (search (sendable, crosses) depth 60 fits 20000, tt))))))))))))
+table_send = declared_send table.the_type (
+  search (sendable, crosses) depth 60 fits 20000,
+  (
+    search (sendable, crosses) depth 60 fits 20000,
+    (
+      search (sendable, crosses) depth 60 fits 20000,
+      (
+        search (sendable, crosses) depth 60 fits 20000,
+        (
+          search (sendable, crosses) depth 60 fits 20000,
+          (
+            search (sendable, crosses) depth 60 fits 20000,
+            (
+              search (sendable, crosses) depth 60 fits 20000,
+              (
+                search (sendable, crosses) depth 60 fits 20000,
+                (
+                  search (sendable, crosses) depth 60 fits 20000,
+                  (search (sendable, crosses) depth 60 fits 20000, (search (sendable, crosses) depth 60 fits 20000, (search (sendable, crosses) depth 60 fits 20000, tt))),
+                ),
+              ),
+            ),
+          ),
+        ),
+      ),
+    ),
+  ),
+)
 
 pub schema_send : IsSend schema.the_row
 schema_send = search (table_send, sendable, crosses) depth 60 fits 20000
@@ -84,13 +111,73 @@ pub returning_send : IsSend returning.the_row
 returning_send = declared_send returning.the_type (search (sendable, crosses) depth 60 fits 20000, (source_send, tt))
 
 command_inner : IsSend (command.the_field).row
-command_inner = enum_send (shape command.the_type) ((program_inner, (search (sendable, crosses) depth 60 fits 20000, tt)), ((search (sendable, crosses) depth 60 fits 20000, (source_inner, tt)), ((search (sendable, crosses) depth 60 fits 20000, (search (sendable, crosses) depth 60 fits 20000, (source_inner, (search (upsert_send, sendable, crosses) depth 60 fits 20000, tt)))), ((search (sendable, crosses) depth 60 fits 20000, (program_inner, tt)), ((search (sendable, crosses) depth 60 fits 20000, (program_inner, tt)), (tt, ((search (sendable, crosses) depth 60 fits 20000, tt), (tt, ((search (sendable, crosses) depth 60 fits 20000, tt), ((search (sendable, crosses) depth 60 fits 20000, tt), ((search (sendable, crosses) depth 60 fits 20000, tt), ((search (sendable, crosses) depth 60 fits 20000, (search (sendable, crosses) depth 60 fits 20000, (search (sendable, crosses) depth 60 fits 20000, tt))), (tt, (tt, (tt, ((search (sendable, crosses) depth 60 fits 20000, tt), ((search (sendable, crosses) depth 60 fits 20000, tt), ((search (sendable, crosses) depth 60 fits 20000, tt), (tt, tt)))))))))))))))))))
+command_inner = enum_send (shape command.the_type) (
+  (program_inner, (search (sendable, crosses) depth 60 fits 20000, tt)),
+  (
+    (search (sendable, crosses) depth 60 fits 20000, (source_inner, tt)),
+    (
+      (search (sendable, crosses) depth 60 fits 20000, (search (sendable, crosses) depth 60 fits 20000, (source_inner, (search (upsert_send, sendable, crosses) depth 60 fits 20000, tt)))),
+      (
+        (search (sendable, crosses) depth 60 fits 20000, (program_inner, tt)),
+        (
+          (search (sendable, crosses) depth 60 fits 20000, (program_inner, tt)),
+          (
+            tt,
+            (
+              (search (sendable, crosses) depth 60 fits 20000, tt),
+              (
+                tt,
+                (
+                  (search (sendable, crosses) depth 60 fits 20000, tt),
+                  (
+                    (search (sendable, crosses) depth 60 fits 20000, tt),
+                    (
+                      (search (sendable, crosses) depth 60 fits 20000, tt),
+                      (
+                        (search (sendable, crosses) depth 60 fits 20000, (search (sendable, crosses) depth 60 fits 20000, (search (sendable, crosses) depth 60 fits 20000, tt))),
+                        (
+                          tt,
+                          (
+                            tt,
+                            (
+                              tt,
+                              (
+                                (search (sendable, crosses) depth 60 fits 20000, tt),
+                                ((search (sendable, crosses) depth 60 fits 20000, tt), ((search (sendable, crosses) depth 60 fits 20000, tt), (tt, tt))),
+                              ),
+                            ),
+                          ),
+                        ),
+                      ),
+                    ),
+                  ),
+                ),
+              ),
+            ),
+          ),
+        ),
+      ),
+    ),
+  ),
+)
 
 pub command_send : IsSend command.the_row
 command_send = let T = command.the_type in recorded_send (Enum (shape T)) T.D T.to T.to_one command_inner
 
 pub compiled_send : IsSend compiled.the_row
-compiled_send = declared_send compiled.the_type (command_send, (search (returning_send, sendable, crosses) depth 60 fits 20000, (search (sendable, crosses) depth 60 fits 20000, (search (sendable, crosses) depth 60 fits 20000, (search (sendable, crosses) depth 60 fits 20000, (search (sendable, crosses) depth 60 fits 20000, (search (sendable, crosses) depth 60 fits 20000, tt)))))))
+compiled_send = declared_send compiled.the_type (
+  command_send,
+  (
+    search (returning_send, sendable, crosses) depth 60 fits 20000,
+    (
+      search (sendable, crosses) depth 60 fits 20000,
+      (
+        search (sendable, crosses) depth 60 fits 20000,
+        (search (sendable, crosses) depth 60 fits 20000, (search (sendable, crosses) depth 60 fits 20000, (search (sendable, crosses) depth 60 fits 20000, tt))),
+      ),
+    ),
+  ),
+)
 
 pub entry_send : IsSend entry.the_row
 entry_send = declared_send entry.the_type (search (sendable, crosses) depth 60 fits 20000, (compiled_send, (search (sendable, crosses) depth 60 fits 20000, tt)))
@@ -111,7 +198,35 @@ pub pool_send : (T : RattleType) (g : _) → IsSend T → IsSend (pool.the_row T
 pool_send T g s = search (sendable, crosses) depth 60 fits 20000
 
 pub store_send : (T : RattleType) (g : _) → IsSend T → IsSend (store.the_row T g)
-store_send T g s = declared_send (store.the_type T g) (pool_send T g s, (search (sendable, crosses) depth 60 fits 20000, (search (sendable, crosses) depth 60 fits 20000, (search (sendable, crosses) depth 60 fits 20000, (search (sendable, crosses) depth 60 fits 20000, (search (sendable, crosses) depth 60 fits 20000, (search (sendable, crosses) depth 60 fits 20000, (search (sendable, crosses) depth 60 fits 20000, (search (sendable, crosses) depth 60 fits 20000, (search (sendable, crosses) depth 60 fits 20000, (search (sendable, crosses) depth 60 fits 20000, (search (sendable, crosses) depth 60 fits 20000, tt))))))))))))
+store_send T g s =
+    declared_send (store.the_type T g) (
+      pool_send T g s,
+      (
+        search (sendable, crosses) depth 60 fits 20000,
+        (
+          search (sendable, crosses) depth 60 fits 20000,
+          (
+            search (sendable, crosses) depth 60 fits 20000,
+            (
+              search (sendable, crosses) depth 60 fits 20000,
+              (
+                search (sendable, crosses) depth 60 fits 20000,
+                (
+                  search (sendable, crosses) depth 60 fits 20000,
+                  (
+                    search (sendable, crosses) depth 60 fits 20000,
+                    (
+                      search (sendable, crosses) depth 60 fits 20000,
+                      (search (sendable, crosses) depth 60 fits 20000, (search (sendable, crosses) depth 60 fits 20000, (search (sendable, crosses) depth 60 fits 20000, tt))),
+                    ),
+                  ),
+                ),
+              ),
+            ),
+          ),
+        ),
+      ),
+    )
 
 pub connection_send : (T : RattleType) (g : _) → IsSend T → IsSend (connection.the_row T g)
 connection_send T g s = search (declared_send, as_row_send, schema_send, history_send, entry_send, reading_send, work_send, srow_send, clock_send, sendable, crosses) depth 60 fits 20000

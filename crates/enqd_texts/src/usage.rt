@@ -19,22 +19,24 @@ pub fn version_text(alloc: Global) -> Result<String, AllocError> {
 /// The words of the command line, of which `clap` renders the texts. They are compared elsewhere.
 fn command(alloc: Global) -> Result<Command<'static>, AllocError> {
     let replay = Command::new(alloc, "replay").about(
-        "Reads the landscape from landscape.toml and opens the store in enq.db, both in the current folder; then reads a \
-         script from standard input, does it line by line, and writes each reply",
+        "Reads the landscape from landscape.toml and opens the store in enq.db, both in the current folder; then \
+         reads a script from standard input, does it line by line, and writes each reply",
     );
     let running = Command::new(alloc, "run").about(
-        "With --workers and a number from 1 to 16 behind it: opens the store as replay does, reads the whole script, does \
-         its sessions, the administrator and so many workers as threads, and writes the history and the rest of the replies",
+        "With --workers and a number from 1 to 16 behind it: opens the store as replay does, reads the whole script, \
+         does its sessions, the administrator and so many workers as threads, and writes the history and the rest of \
+         the replies",
     );
     let covering = Command::new(alloc, "cover").about(
-        "Reads the landscape, and then a whole script from standard input; does no line, and writes which rows that it reads \
-         and writes aren't covered by locks",
+        "Reads the landscape, and then a whole script from standard input; does no line, and writes which rows that \
+         it reads and writes aren't covered by locks",
     );
     let writing = Command::new(alloc, "gen").about(
         "With a number from 1 to 10,000 behind it: writes a script of so many units",
     );
     let loading = Command::new(alloc, "load").about(
-        "With such a number: opens the store as replay does, does the script that gen writes, and writes the audit alone",
+        "With such a number: opens the store as replay does, does the script that gen writes, and writes the audit \
+         alone",
     );
     Command::new(alloc, "enqd")
         .version("0.1.0")

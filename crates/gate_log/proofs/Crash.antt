@@ -6,7 +6,7 @@ use Rattle.bk_disk.specs.Disk.{written, Torn, Follows, Only}
 use Rattle.gate_log.specs.Gates.{IsShut, IsSynced, IsAtRest}
 
 -- a write within the bytes leaves no gap
-written_within : (at : ℕ) (bytes text : List ℕ) → at ≤ length bytes → written bytes at text ≡ take at bytes ++ text ++ drop (at + length text) bytes
+pub written_within : (at : ℕ) (bytes text : List ℕ) → at ≤ length bytes → written bytes at text ≡ take at bytes ++ text ++ drop (at + length text) bytes
 written_within at bytes text le =
     let none : at - length bytes ≡ 0 = omega arith in
     ap (λ (k : ℕ). take at bytes ++ replicate k 0 ++ text ++ drop (at + length text) bytes) none

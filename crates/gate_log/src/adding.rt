@@ -16,6 +16,9 @@ pub fn add_record<D: Disk>(disk: &mut D, gate: u64, text: &[u8]) -> Result<u64, 
     ensures images { IsTrue D.tells → (front body : List ℕ)
         → IsAtRest (D.reads disk.old) (D.may_leave disk.old) gate front → text.now ≡ 1 ∷ (body ++ 0 ∷ [])
         → (c : List ℕ) → D.may_leave disk.new c → IsShut front c ⊎ IsShut (front ++ 1 ∷ body) c }
+    // Where the closed gate is the last byte, the text comes in its place.
+    ensures grown { IsTrue D.tells → (front : List ℕ) (byte : ℕ) → D.reads disk.old ≡ front ++ byte ∷ []
+        → length front ≡ gate → OnOk result (D.reads disk.new ≡ front ++ text.now) }
     ensures cause { HasCause (D.faults disk.old) (D.faults disk.new) result }
 {
     let (open_gate, behind) = text.split_at(1);
@@ -32,6 +35,8 @@ fn stage<D: Disk>(disk: &mut D, gate: u64, behind: &[u8]) -> Result<(), Failed>
     ensures images { IsTrue D.tells → (front : List ℕ)
         → IsAtRest (D.reads disk.old) (D.may_leave disk.old) gate front
         → (c : List ℕ) → D.may_leave disk.new c → IsShut front c }
+    ensures grown { IsTrue D.tells → (front : List ℕ) (byte : ℕ) → D.reads disk.old ≡ front ++ byte ∷ []
+        → length front ≡ gate → OnOk result (D.reads disk.new ≡ front ++ byte ∷ behind.now) }
     ensures cause { HasCause (D.faults disk.old) (D.faults disk.new) result }
 {
     disk.write_at(gate.saturating_add(1), behind)?;
@@ -48,6 +53,9 @@ fn open<D: Disk>(disk: &mut D, gate: u64, open_gate: &[u8]) -> Result<(), Failed
     ensures images { IsTrue D.tells → (front body : List ℕ)
         → IsSynced (D.reads disk.old) (D.may_leave disk.old) gate front (body ++ 0 ∷ []) → open_gate.now ≡ 1 ∷ []
         → (c : List ℕ) → D.may_leave disk.new c → IsShut front c ⊎ IsShut (front ++ 1 ∷ body) c }
+    ensures grown { IsTrue D.tells → (front behind : List ℕ) (byte : ℕ)
+        → D.reads disk.old ≡ front ++ byte ∷ behind → length front ≡ gate → length open_gate.now ≡ 1
+        → OnOk result (D.reads disk.new ≡ front ++ (open_gate.now ++ behind)) }
     ensures cause { HasCause (D.faults disk.old) (D.faults disk.new) result }
 {
     disk.write_at(gate, open_gate)?;

@@ -7,7 +7,9 @@
 mod adding;
 mod fault;
 mod opening;
+mod through;
 
 pub use adding::add_record;
 pub use fault::LogFault;
 pub use opening::{make_new, read_all};
+pub use through::{cut_through, write_through};

@@ -1,7 +1,7 @@
 ghost use Rattle.std.specs.Prelude.{◌≡◌, ℕ, List, [], ◌∷◌, ◌++◌, length, IsTrue, IfOk, OnOk};
 ghost use Rattle.enq_base.specs.Causes.{HasCause};
 ghost use Rattle.bk_disk.specs.Disk.{AddsNone};
-ghost use Rattle.gate_log.specs.Causes.{HasLogCause};
+ghost use Rattle.gate_log.specs.Causes.{HasLogCause, UnlessFailed};
 ghost use Rattle.gate_log.specs.Gates.{IsAtRest, AreShort};
 
 use crate::fault::LogFault;
@@ -15,6 +15,8 @@ const PIECE: usize = 4096;
 pub fn read_all<D: Disk>(alloc: Global, disk: &mut D) -> Result<Vec<u8>, LogFault>
     ensures value { IsTrue D.tells → IfOk result (λ v. v.items ≡ D.reads disk.old) }
     ensures same { IsTrue D.tells → OnOk result (D.reads disk.new ≡ D.reads disk.old) }
+    // Where memory is wanting too.
+    ensures stays { IsTrue D.tells → UnlessFailed result (D.reads disk.new ≡ D.reads disk.old) }
     ensures left { IsTrue D.tells → AddsNone (D.may_leave disk.old) (D.may_leave disk.new) }
     ensures cause { HasLogCause (D.faults disk.old) (D.faults disk.new) result }
 {

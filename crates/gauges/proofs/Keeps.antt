@@ -1,5 +1,6 @@
 -- Each step keeps the rule of the gauges.
-use Rattle.std.proofs.Common.{◌≡◌, ◌≢◌, ℕ, zero, suc, ◌+◌, ◌%◌, ◌<◌, ◌≤◌, true, false, true≢false, List, [], ◌∷◌, ◌++◌, length, All, set, slice_index, slice_get, Some, sym, refl, ap, subst, ◌∙◌, arith, le_refl, length-append, length-set}
+use Rattle.std.proofs.Common.{◌≡◌, ◌≢◌, ℕ, zero, suc, ◌+◌, ◌%◌, ◌<◌, ◌≤◌, true, false, true≢false, List, [], ◌∷◌, ◌++◌, length, All, set, slice_index}
+use Rattle.std.proofs.Common.{slice_get, Some, sym, refl, ap, subst, ◌∙◌, arith, le_refl, length-append, length-set}
 use Rattle.std.specs.List.{sum_by}
 use Rattle.std.proofs.lemmas.List.Sums.{sum_by_push, sum_by-cons}
 use Rattle.std.proofs.lemmas.List.Elements.{All-push}
@@ -18,8 +19,10 @@ use Rattle.seat_sums.proofs.lemmas.Beginnings.{front_is_all}
 use Rattle.seat_sums.proofs.lemmas.Entries.{below_higher, entries_longer, same_there}
 use Rattle.seat_sums.proofs.lemmas.Totals.{total_set, total_whole, total_only, total_le, each_set, each_snoc, was_there, one_if_true}
 use Rattle.gauges.specs.declared.watch.Watch.{Watch}
-use Rattle.gauges.specs.Rule.{words_of, Fits, Kept, opener, writer_of, reader_of, took_in, spent, found_so_far, looked, begun, published, Starts, Reads, Looks, Repeats, Begins, Writes, Publishes, Notes, Learns}
-use Rattle.gauges.proofs.Views.{half_one, writes_one, half_few, set_same, read_more, write_more, words_injective, last_there, lower_pasts, found_fits, looked_fits, rises, rewritten, told_more, shown_later, writer_fits, reader_fits, spent_fits, took_in_fits}
+use Rattle.gauges.specs.Rule.{words_of, Fits, Kept, opener, writer_of, reader_of, took_in, spent, found_so_far, looked, begun, published, Starts, Reads, Looks}
+use Rattle.gauges.specs.Rule.{Repeats, Begins, Writes, Publishes, Notes, Learns}
+use Rattle.gauges.proofs.Views.{half_one, writes_one, half_few, set_same, read_more, write_more, words_injective, last_there, lower_pasts, found_fits}
+use Rattle.gauges.proofs.Views.{looked_fits, rises, rewritten, told_more, shown_later, writer_fits, reader_fits, spent_fits, took_in_fits}
 
 past_at : (rs : List Readings) (k high : ℕ) (r : Readings) → All (λ x. x.past ≤ high) rs → slice_get rs k ≡ Some r → r.past ≤ high
 past_at [] k high r all there = absurd (cc (there))

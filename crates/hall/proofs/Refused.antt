@@ -5,6 +5,8 @@ use Rattle.bk_disk.specs.Disk.{Follows}
 use Rattle.backup_file.specs.File.{Keeps}
 use Rattle.enq_server.specs.Faults as files
 use Rattle.enq_server.specs.Faults.{IsOpenFault}
+use Rattle.enq_server.specs.Recovery.{FreesOthers}
+use Rattle.enq_server.proofs.Images.{keeps_leaves}
 use Rattle.enq_server.specs.declared.fault.OpenFault.{OpenFault}
 use Rattle.enq_server.specs.declared.fault.OpenFault.TheVariants as opening
 use Rattle.keeper_api.specs.Rows.{Rows}
@@ -20,7 +22,8 @@ use Rattle.ledger_steps.specs.Views.{open_locks}
 use Rattle.ledger_steps.specs.Levels.{FitRows, IsFirstUnfit}
 use Rattle.store_reading.specs.Good.{IsSound}
 use Rattle.update_records.specs.Ledger.{Ledger, Levels}
-use Rattle.hall.specs.Faults.{CountsFileFault, CountsHallFault, IsBadFile, IsFileFault, IsHallFault, IsLateFault, IsRangesFault, LeavesFile, LeavesFileOf, MayBeHallFault, OnBadStore, OnKept, file_fault, hall_fault}
+use Rattle.hall.specs.Faults.{CountsFileFault, CountsHallFault, IsBadFile, IsFileFault, IsHallFault, IsLateFault, IsRangesFault, LeavesFile, LeavesFileOf}
+use Rattle.hall.specs.Faults.{MayBeHallFault, OnBadStore, OnKept, file_fault, hall_fault}
 use Rattle.hall.specs.declared.opening.HallFault.{HallFault}
 use Rattle.hall.specs.declared.opening.HallFault.TheVariants as hall
 use Rattle.std.specs.Prelude.{true, Result, Ok, Err, IfOk, IfErr, IsTrue}
@@ -142,6 +145,18 @@ file_told intervals ledger told before tells bytes _ sound stood t fits h = absu
 pub images_stay : (images : List ℕ → Type 0) → Follows Keeps images images
 images_stay images = λ bytes may_be. (bytes, may_be, record { states = λ lists stands. stands; bytes = λ at broken. refl })
 
+-- no list of another unit has to go
+pub others_stay : (units : List UnitLocks) (images : List ℕ → Type 0) → Follows (FreesOthers units) images images
+others_stay units images = keeps_leaves units opening.NoMemory images images (images_stay images)
+
+-- nor does it where the books aren't opened
+pub books_left : (told : Option Rows) (before : Rows → Type 0) (f : BooksFault) (images : List ℕ → Type 0)
+    → LeavesFileOf told before (hall_fault f) images images
+books_left told before books.StoreFault images = images_stay images
+books_left told before (books.BadStore table row) images = images_stay images
+books_left told before books.NoStart images = images_stay images
+books_left told before books.NoMemory images = inl (images_stay images)
+
 pub file_left : (units : List UnitLocks) (f : OpenFault) (old new : List ℕ → Type 0) → Follows (files.Leaves units f) old new
     → LeavesFile units (file_fault f) old new
 file_left units opening.Failed old new h = h
@@ -162,7 +177,7 @@ late_left ledger told before hall.Backup old new sound stood h = record { ledger
 late_left ledger told before (hall.Bad place) old new sound stood h = h
 late_left ledger told before hall.NoStart old new sound stood h = h
 late_left ledger told before (hall.Interval row) old new sound stood h = h
-late_left ledger told before hall.NoMemory old new sound stood h = h
+late_left ledger told before hall.NoMemory old new sound stood h = inr (record { ledger = ledger; sound = sound; stood = stood; frees = h })
 
 -- ---- one of both
 

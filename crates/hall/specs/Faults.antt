@@ -73,9 +73,10 @@ IsBadFile intervals told before bytes (hall.Bad (bad.Backup place)) = StoodUnlik
 IsBadFile intervals told before bytes fault = Unit {0}
 
 -- what a stop may leave of the backup file where it isn't opened for the locks of these units, by what it might have
--- left before: all that was there, and only where the disk failed less lists of other units
+-- left before: all that was there, and only where the disk failed or memory was wanting less lists of other units
 abbrev pub LeavesFile : List UnitLocks → HallFault → (images images_now : List ℕ → Type 0) → Type 0
 LeavesFile units hall.Backup images images_now = Follows (FreesOthers units) images images_now
+LeavesFile units hall.NoMemory images images_now = Follows (FreesOthers units) images images_now
 LeavesFile units fault images images_now = Follows Keeps images images_now
 
 -- the same for the units that wait in a store whose rows, where they are told, were some of those before
@@ -87,9 +88,11 @@ pub record FreesUnlike (told : Option Rows) (before : Rows → Type 0)
   pub frees : Follows (FreesOthers (open_locks ledger)) images images_now
 
 -- What a stop may leave of the backup file of a hall that isn't opened: all that it might have left before. Only where
--- the disk failed lists of units that don't wait may be gone.
+-- the disk failed, or memory was wanting behind the store's opening, lists of units that don't wait may be gone.
 abbrev pub LeavesFileOf : Option Rows → (Rows → Type 0) → HallFault → (images images_now : List ℕ → Type 0) → Type 0
 LeavesFileOf told before hall.Backup images images_now = FreesUnlike told before images images_now
+LeavesFileOf told before hall.NoMemory images images_now =
+    Follows Keeps images images_now ⊎ FreesUnlike told before images images_now
 LeavesFileOf told before fault images images_now = Follows Keeps images images_now
 
 -- what is said of a hall that is refused by its store, before its backup file is touched

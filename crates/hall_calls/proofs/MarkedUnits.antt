@@ -58,11 +58,13 @@ use Rattle.hall_calls.specs.declared.units.Written.{Written}
 use Rattle.hall_calls.specs.declared.units.Written.TheVariants.{Answered, Failed, Unfiled}
 use Rattle.hall_calls.proofs.ending.AfterStop.{also_answered, also_store_failed, answered_leaves, unread_leaves}
 use Rattle.hall_calls.proofs.ending.OverFile.{failed_before, failed_files, half_written_files, ready_stands, same_file, written_files}
-use Rattle.hall_calls.proofs.lists.AsCallsEnd.{again2_agree, again2_known, again2_lists, ended_so, gone_agree, gone_half, gone_known, gone_lists, posted_agree, posted_half, posted_known, posted_lists, was_bad}
+use Rattle.hall_calls.proofs.lists.AsCallsEnd.{again2_agree, again2_known, again2_lists, ended_so, gone_agree, gone_half, gone_known, gone_lists, posted_agree}
+use Rattle.hall_calls.proofs.lists.AsCallsEnd.{posted_half, posted_known, posted_lists, was_bad}
 use Rattle.hall_calls.proofs.lists.BehindMarks.{reopened_lists}
 use Rattle.hall_calls.proofs.lemmas.WaitingLists.{again_known}
 use Rattle.hall_calls.proofs.verdicts.Ungranted.{again_agrees, ungranted_keeps, ungranted_leaves, ungranted_quiet}
-use Rattle.hall_calls.proofs.verdicts.UnitCalls.{cancels, cancels_in_doubt, cancels_unfiled, posts, posts_full, posts_in_doubt, posts_none, posts_unfiled, reopens, reopens_in_doubt, reposts, reposts_in_doubt}
+use Rattle.hall_calls.proofs.verdicts.UnitCalls.{cancels, cancels_in_doubt, cancels_unfiled, posts, posts_full, posts_in_doubt, posts_none, posts_unfiled}
+use Rattle.hall_calls.proofs.verdicts.UnitCalls.{reopens, reopens_in_doubt, reposts, reposts_in_doubt}
 use Rattle.ledger_steps.specs.declared.part.Part.{Part}
 use Rattle.ledger_steps.specs.Parts.{is_first}
 use Rattle.hall_model.specs.Calls.{post_of}

@@ -1,5 +1,6 @@
 -- What a change at a place does to the list of entries.
-use Rattle.std.proofs.Common.{◌≡◌, ℕ, zero, suc, ◌-◌, ◌<◌, ◌≤◌, List, [], ◌∷◌, ◌++◌, Bool, true, false, true≢false, cond, not, ◌||◌, nat_le, filter, length, take, drop, set, map, Option, Some, None, sym, ◌∙◌, ap, refl, arith, inl, inr, subst}
+use Rattle.std.proofs.Common.{◌≡◌, ℕ, zero, suc, ◌-◌, ◌<◌, ◌≤◌, List, [], ◌∷◌, ◌++◌, Bool, true, false, true≢false, cond, not, ◌||◌, nat_le, filter, length}
+use Rattle.std.proofs.Common.{take, drop, set, map, Option, Some, None, sym, ◌∙◌, ap, refl, arith, inl, inr, subst}
 use Rattle.std.specs.List.{find, list_any, list_all, position}
 use Rattle.std.proofs.lemmas.Bool.{cases_Bool, and_parts, or_left, or_right, not-true, le-leb, lt-leb, cond-true, cond-false}
 use Rattle.std.proofs.lemmas.List.{map-append}

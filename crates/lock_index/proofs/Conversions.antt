@@ -1,5 +1,6 @@
 -- Conversions, entry by entry.
-use Rattle.std.proofs.Common.{◌≡◌, ℕ, ◌+◌, ◌<◌, List, [], ◌∷◌, Bool, true, false, true≢false, cond, not, ◌&&◌, ◌||◌, nat_lt, length, take, get_or, filter, Option, Some, None, sym, ◌∙◌, ap, refl, inl, inr}
+use Rattle.std.proofs.Common.{◌≡◌, ℕ, ◌+◌, ◌<◌, List, [], ◌∷◌, Bool, true, false, true≢false, cond, not, ◌&&◌, ◌||◌, nat_lt, length, take, get_or, filter}
+use Rattle.std.proofs.Common.{Option, Some, None, sym, ◌∙◌, ap, refl, inl, inr}
 use Rattle.std.specs.List.{cons_option, filter_map, find, list_any}
 use Rattle.std.specs.Option.{option_map_or}
 use Rattle.std.specs.Str.{bytes_eq}

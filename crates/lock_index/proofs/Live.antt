@@ -1,5 +1,6 @@
 -- The entries that stand at places.
-use Rattle.std.proofs.Common.{◌≡◌, ℕ, zero, suc, ◌+◌, ◌<◌, ◌≤◌, List, [], ◌∷◌, ◌++◌, Bool, cond, length, take, drop, set, get_or, Option, Some, None, sym, ◌∙◌, ap, refl, arith, inl, inr, length-append}
+use Rattle.std.proofs.Common.{◌≡◌, ℕ, zero, suc, ◌+◌, ◌<◌, ◌≤◌, List, [], ◌∷◌, ◌++◌, Bool, cond, length, take, drop, set, get_or, Option, Some, None, sym, ◌∙◌}
+use Rattle.std.proofs.Common.{ap, refl, arith, inl, inr, length-append}
 use Rattle.std.specs.List.{position, find, cons_option}
 use Rattle.std.specs.Prelude.{option_and_then, option_map, slice_get}
 use Rattle.std.proofs.lemmas.Bool.{cases_Bool}

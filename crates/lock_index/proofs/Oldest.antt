@@ -1,5 +1,6 @@
 -- The lowest of the places where something is found.
-use Rattle.std.proofs.Common.{◌≡◌, ◌⊎◌, ℕ, zero, suc, ◌+◌, ◌<◌, ◌≤◌, List, [], ◌∷◌, Bool, true, false, true≢false, cond, ◌&&◌, ◌||◌, nat_eq, nat_le, nat_lt, length, Option, Some, None, sym, ◌∙◌, ap, refl, arith, inl, inr, subst}
+use Rattle.std.proofs.Common.{◌≡◌, ◌⊎◌, ℕ, zero, suc, ◌+◌, ◌<◌, ◌≤◌, List, [], ◌∷◌, Bool, true, false, true≢false, cond, ◌&&◌, ◌||◌, nat_eq, nat_le, nat_lt}
+use Rattle.std.proofs.Common.{length, Option, Some, None, sym, ◌∙◌, ap, refl, arith, inl, inr, subst}
 use Rattle.std.specs.Prelude.{min, option_map}
 use Rattle.std.specs.List.{list_any, position, position_or_len}
 use Rattle.std.proofs.lemmas.Bool.{cases_Bool, or_cases, or_left, or_right, eqb-true, eq-eqb, leb-true, leb-false, lt-ltb}

@@ -1,5 +1,6 @@
 -- The entries of an owner.
-use Rattle.std.proofs.Common.{◌≡◌, ℕ, zero, suc, ◌+◌, ◌<◌, List, [], ◌∷◌, ◌++◌, Bool, true, false, true≢false, cond, not, ◌&&◌, ◌||◌, nat_eq, length, take, drop, set, map, filter, get_or, Option, Some, None, sym, ◌∙◌, ap, refl, arith, inl, inr, subst}
+use Rattle.std.proofs.Common.{◌≡◌, ℕ, zero, suc, ◌+◌, ◌<◌, List, [], ◌∷◌, ◌++◌, Bool, true, false, true≢false, cond, not, ◌&&◌, ◌||◌, nat_eq, length, take}
+use Rattle.std.proofs.Common.{drop, set, map, filter, get_or, Option, Some, None, sym, ◌∙◌, ap, refl, arith, inl, inr, subst}
 use Rattle.std.specs.List.{list_any, IsDistinct, AllByRecursion}
 use Rattle.std.specs.Prelude.{count_by}
 use Rattle.std.specs.Option.{option_map}

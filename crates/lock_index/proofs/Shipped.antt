@@ -1,5 +1,6 @@
 -- What a shipped operation does to a replica in which no name stands twice.
-use Rattle.std.proofs.Common.{◌≡◌, ℕ, zero, suc, ◌<◌, List, [], ◌∷◌, ◌++◌, Bool, true, false, true≢false, cond, not, ◌&&◌, ◌||◌, set, take, drop, length, map, Option, Some, sym, ◌∙◌, ap, refl, inl, inr, get_or, arith}
+use Rattle.std.proofs.Common.{◌≡◌, ℕ, zero, suc, ◌<◌, List, [], ◌∷◌, ◌++◌, Bool, true, false, true≢false, cond, not, ◌&&◌, ◌||◌, set, take, drop, length, map}
+use Rattle.std.proofs.Common.{Option, Some, sym, ◌∙◌, ap, refl, inl, inr, get_or, arith}
 use Rattle.std.specs.List.{list_any, list_all}
 use Rattle.std.proofs.lemmas.Bool.{cases_Bool, and_parts, and_from, not-true}
 use Rattle.std.proofs.lemmas.List.Folds.{list_all-append}

@@ -1,5 +1,6 @@
 -- What stands after a conversion may stand together.
-use Rattle.std.proofs.Common.{◌≡◌, ℕ, ◌+◌, ◌≤◌, List, [], ◌∷◌, Bool, true, false, cond, not, ◌&&◌, ◌||◌, nat_eq, nat_le, length, Option, Some, None, Result, Ok, Err, sym, ◌∙◌, ap, refl, arith, subst, inl, inr, ◌⊎◌}
+use Rattle.std.proofs.Common.{◌≡◌, ℕ, ◌+◌, ◌≤◌, List, [], ◌∷◌, Bool, true, false, cond, not, ◌&&◌, ◌||◌, nat_eq, nat_le, length, Option, Some, None, Result, Ok}
+use Rattle.std.proofs.Common.{Err, sym, ◌∙◌, ap, refl, arith, subst, inl, inr, ◌⊎◌}
 use Rattle.std.specs.Prelude.{min, option_and_then}
 use Rattle.std.specs.List.{list_any, list_all, filter, filter_map, find, cons_option}
 use Rattle.std.specs.Option.{option_map_or}

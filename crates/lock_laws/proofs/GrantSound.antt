@@ -1,5 +1,6 @@
 -- What is granted may stand together with what stood.
-use Rattle.std.proofs.Common.{◌≡◌, ℕ, ◌+◌, ◌≤◌, List, [], ◌∷◌, ◌++◌, Bool, true, false, cond, not, ◌&&◌, nat_eq, nat_lt, nat_le, length, map, Some, None, Ok, Err, sym, ◌∙◌, ap, refl, arith, subst, inl, inr}
+use Rattle.std.proofs.Common.{◌≡◌, ℕ, ◌+◌, ◌≤◌, List, [], ◌∷◌, ◌++◌, Bool, true, false, cond, not, ◌&&◌, nat_eq, nat_lt, nat_le, length, map, Some, None, Ok}
+use Rattle.std.proofs.Common.{Err, sym, ◌∙◌, ap, refl, arith, subst, inl, inr}
 use Rattle.std.specs.List.{list_any, list_all, filter, find, count_by}
 use Rattle.std.specs.Option.{option_or, option_map_or}
 use Rattle.std.proofs.lemmas.Bool.{cases_Bool, and_parts, and_from, and_cases, or_parts, or_cases, or_left, or_right, not_from_false, not-true, ltb-false, leb-true, le-leb, eqb-true, eq-eqb}
@@ -18,7 +19,8 @@ use Rattle.lock_entry.specs.Sound.{has_count, are_apart, IsSound}
 use Rattle.lock_entry.specs.Table.{Table, IsTable, with_entries}
 use Rattle.lock_entry.specs.Granting.{asked, first_bar, new_names, new_entry, is_full, is_over, granted, raised, unless_barred, unless_full}
 use Rattle.lock_entry.proofs.lemmas.Naming.{same_owner-refl, same_name-refl, same_name-same, same_name-sym}
-use Rattle.lock_entry.proofs.lemmas.Lists.{list_all-both, list_all-true, list_all-weaken, list_all-filter, list_all-filter_self, find-None, option_or-None, count_by-any, count_by-none, all_pairs-append, all_pairs-map}
+use Rattle.lock_entry.proofs.lemmas.Lists.{list_all-both, list_all-true, list_all-weaken, list_all-filter, list_all-filter_self, find-None, option_or-None}
+use Rattle.lock_entry.proofs.lemmas.Lists.{count_by-any, count_by-none, all_pairs-append, all_pairs-map}
 use Rattle.lock_laws.proofs.EachOnce.{list_all-each_once, all_pairs-each_once}
 use Rattle.lock_laws.proofs.Sounds.{sound-apart, sound-from}
 use Rattle.lock_laws.proofs.Related.{pair-related, related-calm, apart-from, conflict-unbarred}

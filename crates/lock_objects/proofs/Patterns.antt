@@ -1,5 +1,6 @@
 -- The arguments that right values make of a right object are lock arguments.
-use Rattle.std.proofs.Common.{◌≡◌, ℕ, zero, suc, ◌+◌, ◌-◌, ◌≤◌, List, [], ◌∷◌, ◌++◌, Bool, true, false, cond, ◌&&◌, nat_le, nat_lt, length, replicate, Option, Some, None, sym, ◌∙◌, ap, refl, arith, inl, inr}
+use Rattle.std.proofs.Common.{◌≡◌, ℕ, zero, suc, ◌+◌, ◌-◌, ◌≤◌, List, [], ◌∷◌, ◌++◌, Bool, true, false, cond, ◌&&◌, nat_le, nat_lt, length, replicate, Option}
+use Rattle.std.proofs.Common.{Some, None, sym, ◌∙◌, ap, refl, arith, inl, inr}
 use Rattle.std.specs.Prelude.{is_none, option_map}
 use Rattle.std.specs.List.{list_all, list_any}
 use Rattle.std.specs.Option.{option_map_or}
@@ -136,10 +137,10 @@ module _ (fields : List Field) (values : List FieldValue) (right : list_all (is_
       (argument-Filled keys) in
       record { long = all.long ∙ sym (sum_by-cons (key_width fields) k keys); text = all.text }
 
-wrong_length-None : (n : ℕ) → wrong_length n ≡ None → (nat_le 1 n ≡ true) × (nat_le n 150 ≡ true)
+wrong_length-None : (n : ℕ) → wrong_length n ≡ None → (nat_le 1 n ≡ true) × (nat_le n 255 ≡ true)
 wrong_length-None n h =
-    elim (cases_Bool (nat_le 1 n && nat_le n 150)) [
-      | inl fine ↦ and_parts (nat_le 1 n) (nat_le n 150) fine
+    elim (cases_Bool (nat_le 1 n && nat_le n 255)) [
+      | inl fine ↦ and_parts (nat_le 1 n) (nat_le n 255) fine
       | inr wrong ↦ absurd (let k = rw wrong at h in cc)
     ]
 
@@ -154,7 +155,7 @@ patterns fields values (t ∷ tables) right h =
     let bounds = wrong_length-None (argument_length fields t.keys) hs.0 in
     let filled = argument-Filled fields values right t.keys in
     and_from _ _
-    (and_from _ _ (and_from _ _ filled.text (ap (λ n. nat_le 1 n) filled.long ∙ bounds.0)) (ap (λ n. nat_le n 150) filled.long ∙ bounds.1))
+    (and_from _ _ (and_from _ _ filled.text (ap (λ n. nat_le 1 n) filled.long ∙ bounds.0)) (ap (λ n. nat_le n 255) filled.long ∙ bounds.1))
     (patterns fields values tables right hs.1)
 
 -- Right values make lock arguments of a right object.

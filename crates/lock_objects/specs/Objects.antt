@@ -47,9 +47,9 @@ argument_length fields keys = sum_by (key_width fields) keys
 abbrev pub in_32_bits : ℕ → ℕ
 in_32_bits n = min 4294967295 n
 
--- the length, where it isn't 1 to 150
+-- the length, where it isn't 1 to 255
 abbrev pub wrong_length : ℕ → Option ℕ
-wrong_length n = cond (nat_le 1 n && nat_le n 150) None (Some (in_32_bits n))
+wrong_length n = cond (nat_le 1 n && nat_le n 255) None (Some (in_32_bits n))
 
 abbrev pub tables_fault : List KeyTable → Option ObjectFault
 tables_fault tables =
@@ -65,7 +65,7 @@ repeat_fault fields tables =
     (first_some (λ t. first_repeat t.keys) tables)))
 
 -- Why fields and tables make no lock object: 1 to 8 tables, nothing twice, keys that are fields, and arguments of 1 to
--- 150 bytes, tested in this order.
+-- 255 bytes, tested in this order.
 abbrev pub object_fault : List Field → List KeyTable → Option ObjectFault
 object_fault fields tables =
     option_or (tables_fault tables)

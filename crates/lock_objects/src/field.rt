@@ -20,7 +20,7 @@ pub enum ObjectFault {
     NoTable,
     /// There are this many tables, more than 8.
     TooManyTables(u32),
-    /// The arguments of a table have this many bytes: none, or more than 150.
+    /// The arguments of a table have this many bytes: none, or more than 255.
     TooLong(u32),
     /// A key that is no field.
     UnknownField(Name),

@@ -16,7 +16,7 @@ use std::alloc::Global;
 use std::marker::Model;
 
 /// A lock object (The SAP Lock Concept): fields of 1 to 150 bytes, and 1 to 8 tables whose keys are among the fields
-/// and have 1 to 150 bytes together.
+/// and have 1 to 255 bytes together.
 #[derive(Drop)]
 pub struct LockObject {
     name: Name,

@@ -10,7 +10,7 @@ use enq_base::Name;
 
 const MOST_TABLES: usize = 8;
 
-const MOST_BYTES: u32 = 150;
+const MOST_BYTES: u32 = 255;
 
 /// Why fields and tables make no lock object.
 pub fn object_fault(fields: &[Field], tables: &[KeyTable]) -> Option<ObjectFault>
@@ -173,7 +173,7 @@ fn length_fault(fields: &[Field], tables: &[KeyTable]) -> Option<ObjectFault>
     }
 }
 
-/// The length of the arguments of the first table where it isn't 1 to 150.
+/// The length of the arguments of the first table where it isn't 1 to 255.
 fn wrong_length(fields: &[Field], tables: &[KeyTable]) -> Option<u32>
     ensures { result ≡ objects.first_some
         (λ t. objects.wrong_length (objects.argument_length fields.now t.keys)) tables.now }

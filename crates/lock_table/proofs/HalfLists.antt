@@ -1,5 +1,6 @@
 -- Halves, one after another.
-use Rattle.std.proofs.Common.{◌≡◌, ℕ, zero, suc, ◌+◌, ◌<◌, ◌≤◌, List, [], ◌∷◌, ◌++◌, Bool, true, false, cond, not, ◌||◌, nat_lt, length, map, take, get_or, set, subst, Option, Some, None, Ok, Err, sym, ◌∙◌, ap, refl, arith}
+use Rattle.std.proofs.Common.{◌≡◌, ℕ, zero, suc, ◌+◌, ◌<◌, ◌≤◌, List, [], ◌∷◌, ◌++◌, Bool, true, false, cond, not, ◌||◌, nat_lt, length, map, take, get_or, set}
+use Rattle.std.proofs.Common.{subst, Option, Some, None, Ok, Err, sym, ◌∙◌, ap, refl, arith}
 use Rattle.std.specs.Prelude.{is_some, min}
 use Rattle.std.specs.List.{list_any, list_all, filter, position, position_or_len}
 use Rattle.std.proofs.lemmas.Bool.{and_parts, or_left, or_right}

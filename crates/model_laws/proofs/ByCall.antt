@@ -25,7 +25,9 @@ use Rattle.lock_entry.specs.declared.fault.AskFault.{AskFault}
 use Rattle.ledger_steps.specs.Posts.{entries_of, kind_for}
 use Rattle.ledger_steps.specs.Steps.{waiting_for}
 use Rattle.update_records.specs.Marks.{status_of}
-use Rattle.hall_model.specs.Calls.{Call, LogsOn, OfSession, OfWorker, OfAdmin, Kills, FailsOver, Restarts, Attaches, Cancels, Resubmits, Takes, Posts, Drops, SessionCall, LogsOff, Asks, Frees, FreesAll, Converts, Draws, Reserves, Reads, Commits, RollsBack, call_of, restarts, wants_server}
+use Rattle.hall_model.specs.Calls.{Call, LogsOn, OfSession, OfWorker, OfAdmin, Kills, FailsOver, Restarts, Attaches, Cancels, Resubmits, Takes, Posts, Drops}
+use Rattle.hall_model.specs.Calls.{SessionCall, LogsOff, Asks, Frees, FreesAll, Converts, Draws, Reserves, Reads, Commits, RollsBack, call_of, restarts}
+use Rattle.hall_model.specs.Calls.{wants_server}
 use Rattle.hall_model.specs.Devices.{DeviceOutcome, AllWell, Wanting, StoreFails, BackupFails, LinkFails, NotRemade, Reading, fault_told, found_by}
 use Rattle.hall_model.specs.History.{Served, doubted, ends_in, in_flight_after, judged, losing, read_anew, refused, served, stored_before_file, unfiled, without_stock}
 use Rattle.hall_model.specs.Orders.{first_unclaimed, order_for, order_of, without_order}
@@ -36,7 +38,11 @@ use Rattle.hall_model.specs.Stocks.{MayCall}
 use Rattle.number_ranges.specs.Intervals.{block_level, code_of, is_buffered}
 use Rattle.ledger_steps.specs.Levels.{present, range_at}
 use Rattle.ledger_steps.specs.declared.range.NumberRange.{NumberRange}
-use Rattle.hall_model.specs.Step.{Found, Verdict, Refuses, Leaves, ask_refusal, attached, barred, called, clashing, caller_refusal, call_verdict, cancelled, commit, committed, converting, detached, down_refusal, drawing, effects_in, entered, followed_over, freed_all, from_replica, giving, granting, handing, is_full, is_sound, is_taken, killed, logged_off, logon, lowered, marked, not_over, numbered, or_else, own_verdict, passing, posted_reply, posting, reopened, reposted, reserving, restart, restarted, rolled_back, session_call, session_refusal, taken, taking, unavailable, unless_refused, verdict, with_room, server_refusal}
+use Rattle.hall_model.specs.Step.{Found, Verdict, Refuses, Leaves, ask_refusal, attached, barred, called, clashing, caller_refusal, call_verdict, cancelled}
+use Rattle.hall_model.specs.Step.{commit, committed, converting, detached, down_refusal, drawing, effects_in, entered, followed_over, freed_all, from_replica}
+use Rattle.hall_model.specs.Step.{giving, granting, handing, is_full, is_sound, is_taken, killed, logged_off, logon, lowered, marked, not_over, numbered}
+use Rattle.hall_model.specs.Step.{or_else, own_verdict, passing, posted_reply, posting, reopened, reposted, reserving, restart, restarted, rolled_back}
+use Rattle.hall_model.specs.Step.{session_call, session_refusal, taken, taking, unavailable, unless_refused, verdict, with_room, server_refusal}
 use Rattle.hall_model.specs.declared.command.Command.{Command}
 use Rattle.hall_model.specs.declared.command.Reply.TheVariants as reply
 use Rattle.hall_model.specs.declared.command.Session.{Session}

@@ -1,5 +1,6 @@
 -- Each step keeps the rule of a stock.
-use Rattle.std.proofs.Common.{◌≡◌, ◌⊎◌, inl, inr, ℕ, zero, suc, ◌+◌, ◌%◌, ◌<◌, ◌≤◌, ◌==◌, max, leb, ltb, Bool, true, false, true≢false, ◌&&◌, ◌||◌, List, [], ◌∷◌, ◌++◌, if◌then◌else◌, All, length, get_or, set, slice_index, sym, refl, ap, subst, ⊎_elim, ◌∙◌, arith, le_refl}
+use Rattle.std.proofs.Common.{◌≡◌, ◌⊎◌, inl, inr, ℕ, zero, suc, ◌+◌, ◌%◌, ◌<◌, ◌≤◌, ◌==◌, max, leb, ltb, Bool, true, false, true≢false, ◌&&◌, ◌||◌, List, []}
+use Rattle.std.proofs.Common.{◌∷◌, ◌++◌, if◌then◌else◌, All, length, get_or, set, slice_index, sym, refl, ap, subst, ⊎_elim, ◌∙◌, arith, le_refl}
 use Rattle.std.specs.List.{sum_by}
 use Rattle.std.proofs.lemmas.List.Sums.{sum_by_push}
 use Rattle.std.proofs.lemmas.List.Elements.{All-push, All-append}
@@ -10,7 +11,8 @@ use native.Mathlib.Decide.{ℕ_discrete}
 use mathlib.Core.Option.{none}
 use Rattle.atomic_table.specs.Table.{State, Me, step, keeps, Allows, Splits, Joins}
 use Rattle.seat_sums.specs.Sums.{times, one_if}
-use Rattle.seat_sums.proofs.lemmas.Totals.{total_le, total_set, total_at, total_two, total_whole, each_set, each_snoc, was_there, times_cons, times_push, times_append, below_next, one_if_le, one_if_true, one_if_below}
+use Rattle.seat_sums.proofs.lemmas.Totals.{total_le, total_set, total_at, total_two, total_whole, each_set, each_snoc, was_there, times_cons, times_push}
+use Rattle.seat_sums.proofs.lemmas.Totals.{times_append, below_next, one_if_le, one_if_true, one_if_below}
 use Rattle.seat_sums.proofs.lemmas.Entries.{below_none, below_higher}
 use Rattle.number_stock.specs.declared.hand.Hand.{Hand}
 use Rattle.number_stock.specs.Rule.{Fits, Kept, spent, drew, saw, raised, kept_of, given_of, rest_of, unused_of, leads, both_of, IsKnown, Draws, Looks, Raises, Learns}

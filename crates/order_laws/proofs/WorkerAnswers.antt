@@ -14,7 +14,8 @@ use Rattle.hall_model.specs.History.{IsStep, Served, ends_in, judged, losing, no
 use Rattle.hall_model.specs.Orders.{first_unclaimed, order_for, order_of}
 use Rattle.hall_model.specs.Recall.{IsModelAnswer, Made}
 use Rattle.hall_model.specs.State.{State}
-use Rattle.hall_model.specs.Step.{Found, Verdict, Refuses, Leaves, call_verdict, down_refusal, is_full, or_else, posted_reply, posting, server_refusal, taken, taking, unless_refused, with_room, worker_call}
+use Rattle.hall_model.specs.Step.{Found, Verdict, Refuses, Leaves, call_verdict, down_refusal, is_full, or_else, posted_reply, posting, server_refusal, taken}
+use Rattle.hall_model.specs.Step.{taking, unless_refused, with_room, worker_call}
 use Rattle.hall_model.specs.declared.command.Command.{Command}
 use Rattle.hall_model.specs.declared.command.PastEntry.{PastEntry}
 use Rattle.hall_model.specs.declared.command.Reply.TheVariants as reply

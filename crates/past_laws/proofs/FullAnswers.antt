@@ -11,14 +11,20 @@ use Rattle.enq_base.specs.declared.unit.Parts.{Parts}
 use Rattle.enq_base.specs.declared.unit.Status.{Status}
 use Rattle.enq_base.specs.declared.unit.Status.TheVariants.{Bad}
 use Rattle.model_laws.proofs.NotedCalls.{by_noting}
-use Rattle.hall_model.specs.Calls.{Call, LogsOn, OfSession, OfWorker, OfAdmin, AdminCall, Kills, FailsOver, Restarts, Attaches, Cancels, Resubmits, WorkerCall, Takes, Posts, Drops, SessionCall, LogsOff, Asks, Frees, FreesAll, Converts, Draws, Reserves, Reads, Commits, RollsBack, call_of, restarts, wants_server}
+use Rattle.hall_model.specs.Calls.{Call, LogsOn, OfSession, OfWorker, OfAdmin, AdminCall, Kills, FailsOver, Restarts, Attaches, Cancels, Resubmits, WorkerCall}
+use Rattle.hall_model.specs.Calls.{Takes, Posts, Drops, SessionCall, LogsOff, Asks, Frees, FreesAll, Converts, Draws, Reserves, Reads, Commits, RollsBack}
+use Rattle.hall_model.specs.Calls.{call_of, restarts, wants_server}
 use Rattle.hall_model.specs.Devices.{DeviceOutcome, AllWell, Wanting, StoreFails, BackupFails, LinkFails, NotRemade, RemakeFault, MeetsWant, FindsBad, FindsBadStore, fault_told, found_by}
 use Rattle.hall_model.specs.History.{ends_in, judged, served, step, takes_flight}
 use Rattle.hall_model.specs.Numbers.{next_number, other_holder, stocked}
 use Rattle.hall_model.specs.Orders.{first_unclaimed, order_for, order_of, without_order, worker_of}
 use Rattle.hall_model.specs.Sessions.{session_at}
 use Rattle.hall_model.specs.State.{State}
-use Rattle.hall_model.specs.Step.{Found, Verdict, Refuses, Leaves, admin_call, ask_refusal, barred, called, caller_refusal, call_verdict, cancelling, clashing, committing, converting, down_refusal, drawing, effects_in, from_replica, giving, granting, handing, if_room, if_status, if_unclaimed, is_full as has_no_room, is_sound, is_taken, logon, may_cancel, may_resubmit, or_else, own_verdict, passing, posted_reply, posting, recording, reopening, reserving, restarted, resubmitting, session_call, session_refusal, server_refusal, taking, to_cancel, to_resubmit, trying_again, unavailable, unless_refused, with_room, worker_call}
+use Rattle.hall_model.specs.Step.{Found, Verdict, Refuses, Leaves, admin_call, ask_refusal, barred, called, caller_refusal, call_verdict, cancelling, clashing}
+use Rattle.hall_model.specs.Step.{committing, converting, down_refusal, drawing, effects_in, from_replica, giving, granting, handing, if_room, if_status}
+use Rattle.hall_model.specs.Step.{if_unclaimed, is_full as has_no_room, is_sound, is_taken, logon, may_cancel, may_resubmit, or_else, own_verdict, passing}
+use Rattle.hall_model.specs.Step.{posted_reply, posting, recording, reopening, reserving, restarted, resubmitting, session_call, session_refusal}
+use Rattle.hall_model.specs.Step.{server_refusal, taking, to_cancel, to_resubmit, trying_again, unavailable, unless_refused, with_room, worker_call}
 use Rattle.hall_model.specs.declared.command.Command.{Command}
 use Rattle.hall_model.specs.declared.command.Reply.{Reply}
 use Rattle.hall_model.specs.declared.command.Reply.TheVariants as reply

@@ -14,7 +14,8 @@ use Rattle.hall_model.specs.Devices.{AllWell, Wanting, StoreFails, BackupFails, 
 use Rattle.hall_model.specs.History.{IsStep, Served, ends_in, is_unrecorded, judged, past_entry, served, step, takes_flight, with_entry}
 use Rattle.hall_model.specs.Recall.{AreModelAnswers, Made, recalled, state_after}
 use Rattle.hall_model.specs.State.{State}
-use Rattle.hall_model.specs.Step.{Found, Verdict, Refuses, caller_refusal, call_verdict, down_refusal, is_full as has_no_room, leaves, or_else, own_verdict, server_refusal, unavailable, unless_refused}
+use Rattle.hall_model.specs.Step.{Found, Verdict, Refuses, caller_refusal, call_verdict, down_refusal, is_full as has_no_room, leaves, or_else, own_verdict}
+use Rattle.hall_model.specs.Step.{server_refusal, unavailable, unless_refused}
 use Rattle.hall_model.specs.declared.command.Command.{Command}
 use Rattle.hall_model.specs.declared.command.Reply.{Reply}
 use Rattle.hall_model.specs.declared.command.Reply.TheVariants as reply

@@ -1,5 +1,6 @@
 -- What the marks of a store make of the standings of its units, one by one.
-use Rattle.std.proofs.Common.{◌≡◌, ℕ, zero, suc, ◌+◌, ◌*◌, ◌≤◌, ◌<◌, Bool, true, false, cond, List, [], ◌∷◌, ◌++◌, length, map, take, drop, if◌then◌else◌, Option, Some, None, IfSome, slice_set, refl, sym, ap, ◌∙◌, subst, arith, length-append, append_assoc, get_or}
+use Rattle.std.proofs.Common.{◌≡◌, ℕ, zero, suc, ◌+◌, ◌*◌, ◌≤◌, ◌<◌, Bool, true, false, cond, List, [], ◌∷◌, ◌++◌, length, map, take, drop, if◌then◌else◌}
+use Rattle.std.proofs.Common.{Option, Some, None, IfSome, slice_set, refl, sym, ap, ◌∙◌, subst, arith, length-append, append_assoc, get_or}
 use Rattle.std.specs.List.{filter, slice_get, All, AllByRecursion}
 use Rattle.std.proofs.lemmas.Bool.{false≢true}
 use Rattle.std.proofs.lemmas.List.{append-nil, take-append-drop, take_all}

@@ -1,5 +1,6 @@
 -- Turns of a carrier, and what comes of them in an outbox.
-use Rattle.std.proofs.Common.{◌≡◌, ℕ, ◌+◌, ◌*◌, ◌≤◌, inl, inr, ⊎_elim, Bool, true, false, cond, List, [], ◌∷◌, ◌++◌, is_some, is_none, Option, Some, None, option_map, IfSome, refl, sym, ap, subst, ◌∙◌, append_assoc, append-nil, arith}
+use Rattle.std.proofs.Common.{◌≡◌, ℕ, ◌+◌, ◌*◌, ◌≤◌, inl, inr, ⊎_elim, Bool, true, false, cond, List, [], ◌∷◌, ◌++◌, is_some, is_none, Option, Some, None}
+use Rattle.std.proofs.Common.{option_map, IfSome, refl, sym, ap, subst, ◌∙◌, append_assoc, append-nil, arith}
 use mathlib.Core.List.{IsPrefix}
 use Rattle.std.specs.Str.{bytes_eq}
 use Rattle.keeper_api.specs.Keeping.{IsBeforeOrAfter, IsOnly, IsWithin}

@@ -17,7 +17,8 @@ use Rattle.remote_sending.specs.declared.sending.TrfcWhy.{TrfcWhy}
 use Rattle.remote_sending.specs.declared.sending.TrfcWhy.TheVariants.{Done, BadWords, SinkFault, SystemFault, OutboxFault, BadRow, NoMemory}
 use Rattle.remote_sending.specs.Outbox.{first_bad, first_bad_from, outbox_change, with_call}
 use Rattle.remote_sending.specs.Growing.{AreCallsOf}
-use Rattle.remote_sending.specs.Sends.{IsOutboxEnd, IsKeeperEnd, IsRowsEnd, IsSystemEnd, OnBadRow, RisesIf, UnlessOutboxFault, ended_as, is_outbox_fault, is_system_fault, outbox_fault, system_fault, why_behind}
+use Rattle.remote_sending.specs.Sends.{IsOutboxEnd, IsKeeperEnd, IsRowsEnd, IsSystemEnd, OnBadRow, RisesIf, UnlessOutboxFault, ended_as, is_outbox_fault}
+use Rattle.remote_sending.specs.Sends.{is_system_fault, outbox_fault, system_fault, why_behind}
 use Rattle.remote_sending.proofs.Reading.{bad_read_at, calls_read}
 use Rattle.remote_sending.proofs.Spelled.{Spell}
 

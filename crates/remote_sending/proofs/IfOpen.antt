@@ -1,5 +1,6 @@
 -- A call is sent if it is open.
-use Rattle.std.proofs.Common.{◌≡◌, ℕ, ◌+◌, ◌*◌, ◌<◌, ◌≤◌, drop, get_or, length, Bool, true, false, cond, List, [], ◌∷◌, ◌++◌, is_none, is_some, Option, Some, None, option_map, IfSome, Result, Ok, Err, IfOk, IfErr, refl, sym, ap, subst, ◌∙◌, arith}
+use Rattle.std.proofs.Common.{◌≡◌, ℕ, ◌+◌, ◌*◌, ◌<◌, ◌≤◌, drop, get_or, length, Bool, true, false, cond, List, [], ◌∷◌, ◌++◌, is_none, is_some, Option, Some}
+use Rattle.std.proofs.Common.{None, option_map, IfSome, Result, Ok, Err, IfOk, IfErr, refl, sym, ap, subst, ◌∙◌, arith}
 use Rattle.std.specs.Io.KnownBytes.{Appends}
 use Rattle.std.proofs.KnownBytes.{Appends-nil}
 use Rattle.std.proofs.lemmas.List.Sums.{count_by-le-length}

@@ -1,5 +1,6 @@
 -- What a keeper may leave, and what it holds.
-use Rattle.std.proofs.Common.{◌≡◌, ℕ, inl, inr, ⊎_elim, Bool, true, false, cond, List, [], ◌∷◌, ◌++◌, is_some, Option, Some, None, option_map, IfSome, Contains, Result, Ok, Err, OnOk, length, take, zero, suc, ◌+◌, ◌<◌, ◌≤◌, get_or, refl, sym, ap, subst, ◌∙◌, arith}
+use Rattle.std.proofs.Common.{◌≡◌, ℕ, inl, inr, ⊎_elim, Bool, true, false, cond, List, [], ◌∷◌, ◌++◌, is_some, Option, Some, None, option_map, IfSome, Contains}
+use Rattle.std.proofs.Common.{Result, Ok, Err, OnOk, length, take, zero, suc, ◌+◌, ◌<◌, ◌≤◌, get_or, refl, sym, ap, subst, ◌∙◌, arith}
 use Rattle.std.proofs.lemmas.List.Elements.{Contains-push_cases}
 use Rattle.std.proofs.lemmas.List.{take_more}
 use Rattle.std.specs.Ordering.{eq_by_cmp}

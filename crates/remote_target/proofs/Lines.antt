@@ -1,6 +1,7 @@
 -- What the calls of a carrier leave of its target.
 use mathlib.Core.List.{IsPrefix}
-use Rattle.std.proofs.Common.{◌≡◌, inl, inr, ◌≤◌, true, false, List, [], ◌++◌, length, Option, Some, None, option_map, IfSome, IfOk, IfErr, OnOk, Result, Ok, Err, refl, sym, ap, subst, ◌∙◌, append-nil, append_assoc}
+use Rattle.std.proofs.Common.{◌≡◌, inl, inr, ◌≤◌, true, false, List, [], ◌++◌, length, Option, Some, None, option_map, IfSome, IfOk, IfErr, OnOk, Result, Ok}
+use Rattle.std.proofs.Common.{Err, refl, sym, ap, subst, ◌∙◌, append-nil, append_assoc}
 use Rattle.std.specs.Option.{is_some}
 use Rattle.std.specs.Result.{is_err}
 use Rattle.enq_base.specs.declared.no_memory.NoMemory.{NoMemory}

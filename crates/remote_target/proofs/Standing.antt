@@ -1,5 +1,6 @@
 -- Rows without a bad one stand for calls that a target executed.
-use Rattle.std.proofs.Common.{◌≡◌, ℕ, ◌+◌, ◌≤◌, Bool, true, false, cond, not, ◌&&◌, ◌||◌, nat_eq, nat_le, map, List, [], ◌∷◌, ◌++◌, length, Option, Some, None, IfSome, Result, Ok, Err, IfOk, OnOk, refl, sym, ap, subst, subst₂, ◌∙◌, append-nil, arith}
+use Rattle.std.proofs.Common.{◌≡◌, ℕ, ◌+◌, ◌≤◌, Bool, true, false, cond, not, ◌&&◌, ◌||◌, nat_eq, nat_le, map, List, [], ◌∷◌, ◌++◌, length, Option, Some, None}
+use Rattle.std.proofs.Common.{IfSome, Result, Ok, Err, IfOk, OnOk, refl, sym, ap, subst, subst₂, ◌∙◌, append-nil, arith}
 use Rattle.std.proofs.lemmas.Bool.{eqb-true, leb-true}
 use Rattle.std.proofs.lemmas.List.{length-map}
 use Rattle.std.specs.List.{AllByRecursion, find, position}
@@ -8,7 +9,8 @@ use Rattle.byteorder.specs.Numbers.{big_number-reads_back}
 use Rattle.keeper_api.specs.declared.rows.Row.{Row}
 use Rattle.keeper_api.specs.Rows.{Rows, RiseFrom}
 use Rattle.remote_target.specs.Executed.{call_in, executed_in, placed}
-use Rattle.remote_target.specs.Reading.{AreSpelled, IsSpelled, at_place, bad_place, bad_place_in, count_in, first_bad_call, has_place, is_call, is_call_behind, is_count_row, is_counting, is_number, is_text_row, is_within, one_on, place_in, stored_count, value_if}
+use Rattle.remote_target.specs.Reading.{AreSpelled, IsSpelled, at_place, bad_place, bad_place_in, count_in, first_bad_call, has_place, is_call, is_call_behind}
+use Rattle.remote_target.specs.Reading.{is_count_row, is_counting, is_number, is_text_row, is_within, one_on, place_in, stored_count, value_if}
 use Rattle.remote_target.specs.Rows.{IsCount, StandFor, count_key, row_key, value_from}
 use Rattle.remote_target.specs.Runs.{Ran}
 use Rattle.table_reading.specs.Tables.{rows_in}

@@ -21,7 +21,8 @@ use Rattle.module_effects.proofs.lemmas.Tables.{get-with_row, same_row, same_row
 use Rattle.remote_target.specs.declared.call.CallOutcome.{CallOutcome}
 use Rattle.remote_target.specs.declared.call.CallOutcome.TheVariants.{Done, BadText, Refused}
 use Rattle.remote_target.specs.Calls.{effect_of, tables_by, tables_in}
-use Rattle.remote_target.specs.Rows.{IsCount, IsOutcomeIn, StandFor, call_value, changes_at, changes_if, changes_of, count_key, outcome_bytes, outcome_in, row_if, row_key, row_left, rows_by, value_from}
+use Rattle.remote_target.specs.Rows.{IsCount, IsOutcomeIn, StandFor, call_value, changes_at, changes_if, changes_of, count_key, outcome_bytes, outcome_in}
+use Rattle.remote_target.specs.Rows.{row_if, row_key, row_left, rows_by, value_from}
 use Rattle.remote_target.specs.Runs.{Call, Execution, Ran, executed_as, execution, ran, ran_if}
 
 -- ---- two places are one

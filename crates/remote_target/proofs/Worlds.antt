@@ -6,7 +6,9 @@ use Rattle.remote_target.specs.declared.call.CallAnswer.{CallAnswer}
 use Rattle.remote_target.specs.declared.call.CallOutcome.{CallOutcome}
 use Rattle.remote_target.specs.Calls.{outcome_of, tables_with}
 use Rattle.remote_target.specs.Runs.{Call, Execution, executed_as, execution, ran_if}
-use Rattle.remote_target.specs.Once.{Entry, World, Event, Collect, Send, Deliver, Answer, Commit, Whole, StopBefore, StopAfter, AreOnce, AreRight, Stands, answered, collected, committed, delivered, executed, given_if, happens, is_collected, is_of, no_calls, run, sent_if_open, settled, stored, tables_after, world_after}
+use Rattle.remote_target.specs.Once.{Entry, World, Event, Collect, Send, Deliver, Answer, Commit, Whole, StopBefore, StopAfter, AreOnce, AreRight, Stands}
+use Rattle.remote_target.specs.Once.{answered, collected, committed, delivered, executed, given_if, happens, is_collected, is_of, no_calls, run, sent_if_open}
+use Rattle.remote_target.specs.Once.{settled, stored, tables_after, world_after}
 use Rattle.remote_target.proofs.Lists.{contains_none, contains_got}
 use Rattle.remote_target.proofs.Executions.{as_contained, as_more, once_more, right_more, tables_more}
 use Rattle.remote_target.proofs.Outboxes.{HasOneText, entry, one_text_more, one_text_settled, outcome_cases, stands_more, stands_settled}

@@ -1,5 +1,6 @@
 //! A load on the whole server over devices in memory, for measuring: four sessions that record as many order entries
-//! each, done line by line, or by threads. It prints the counts of the server at the end, and nothing else.
+//! each, or units with a V1 part of 200 effects, done line by line, or by threads. It prints the counts of the server at
+//! the end, and nothing else.
 #![tactic(auto)]
 
 mod orders;
@@ -22,7 +23,7 @@ fn main(rt: HostRuntime) -> io::Result<ExitCode> {
     }
     let Some(order) = order_of(words.as_slice()) else {
         eprintln!(&rt;
-            "words: replay, or run and a number of workers; order entries of each session"
+            "words: replay, or run and workers; order entries of each session, or parts and units"
         )?;
         return Ok(ExitCode::from(WRONG_WORDS));
     };

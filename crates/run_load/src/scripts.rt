@@ -1,4 +1,4 @@
-use crate::orders::{Order, Way};
+use crate::orders::{Load, Order, Way};
 use enq_base::NoMemory;
 use std::alloc::Global;
 
@@ -23,7 +23,11 @@ const SESSIONS: u32 = 4;
 
 const LOGONS: &str = "S1 LOGON U1\nS2 LOGON U2\nS3 LOGON U3\nS4 LOGON U4\n";
 
-/// The script in which four sessions record as many order entries each by turns, and then the counts are asked for.
+// How many effects a V1 part has where it has nothing else.
+const EFFECTS: u32 = 200;
+
+/// The script in which four sessions record as many order entries each by turns, or as many units with large parts, and
+/// then the counts are asked for.
 pub fn script_of(alloc: Global, order: &Order) -> Result<Vec<u8>, NoMemory> {
     let mut text = String::new(alloc);
     put_script(&mut text, order)?;
@@ -32,9 +36,12 @@ pub fn script_of(alloc: Global, order: &Order) -> Result<Vec<u8>, NoMemory> {
 
 fn put_script(text: &mut String, order: &Order) -> Result<(), NoMemory> {
     text.push_str(LOGONS)?;
-    for _ in 0..order.entries {
+    for time in 0..order.times {
         for session in 1..=SESSIONS {
-            put_entry(text, session)?;
+            match order.load {
+                Load::Entries => put_entry(text, session)?,
+                Load::Parts => put_part(text, session, time)?,
+            }
             if let Way::Replay = order.way {
                 put_work(text, session)?;
             }
@@ -52,6 +59,18 @@ fn put_entry(text: &mut String, session: u32) -> Result<(), NoMemory> {
     write!(text, "S{session} V1 INS VBAP $N-10 PUMP\n")?;
     write!(text, "S{session} V1 INS VBAP $N-20 VALVE\n")?;
     write!(text, "S{session} V2 ADD STAT ORDERS 1\n")?;
+    write!(text, "S{session} COMMIT\n")?;
+    Ok(())
+}
+
+/// A text for each of 200 rows of the session's own, and the COMMIT.
+fn put_part(text: &mut String, session: u32, time: u32) -> Result<(), NoMemory> {
+    for effect in 0..EFFECTS {
+        write!(
+            text,
+            "S{session} V1 PUT T {session}-{time}-{effect} TEXT OF SOME LENGTH {effect}\n"
+        )?;
+    }
     write!(text, "S{session} COMMIT\n")?;
     Ok(())
 }

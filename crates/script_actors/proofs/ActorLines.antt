@@ -10,7 +10,8 @@ use Rattle.script_lang.specs.declared.script_line.ScriptLine.{ScriptLine}
 use Rattle.script_lang.specs.declared.script_line.ScriptLine.TheVariants as line
 use Rattle.script_runner.specs.Lines.{Meaning, Calls, line_kind}
 use Rattle.script_runner.specs.declared.monitor.LineKind.TheVariants as kind
-use Rattle.script_actors.specs.Actors.{AddsDone, AddsPart, Deeds, DeskView, DoesFirst, DoesLine, DoesLines, Given, IsGiven, IsGivenFor, Land, TakesLine, deeds, lines_of_actor, no_deeds, own_meaning, saying}
+use Rattle.script_actors.specs.Actors.{AddsDone, AddsPart, Deeds, DeskView, DoesFirst, DoesLine, DoesLines, Given, IsGiven, IsGivenFor, Land, TakesLine, deeds}
+use Rattle.script_actors.specs.Actors.{lines_of_actor, no_deeds, own_meaning, saying}
 use Rattle.script_actors.specs.Carried.{MayHaveTaken}
 use Rattle.script_actors.specs.Doers.{is_done_by}
 use Rattle.script_actors.specs.Drawings.{Asking, Draws, Ready, asking}

@@ -21,12 +21,15 @@ use Rattle.number_ranges.specs.Intervals.{code_of, is_named}
 use Rattle.number_ranges.specs.declared.interval.Interval.{Interval}
 use Rattle.script_lang.specs.declared.script_line.ScriptLine.{ScriptLine}
 use Rattle.script_lang.specs.declared.script_line.ScriptLine.TheVariants as line
-use Rattle.script_runner.specs.Lines.{Meaning, Silent, Shows, Calls, Declines, Changes, and_next, asking, collected, collecting, effect_of, key_in, key_with, meaning, number_in, of_session, registered, registering, requesting, settled, text_in, then_deed, unless_refused}
+use Rattle.script_runner.specs.Lines.{Meaning, Silent, Shows, Calls, Declines, Changes, and_next, asking, collected, collecting, effect_of, key_in, key_with}
+use Rattle.script_runner.specs.Lines.{meaning, number_in, of_session, registered, registering, requesting, settled, text_in, then_deed, unless_refused}
 use Rattle.script_runner.specs.Preparing.{HasRoomFor, IsPrepared, MayEnter}
 use Rattle.script_runner.specs.Sides.{SidesView, side_of, variables_of}
 use Rattle.script_runner.specs.World.{Setting, setting}
 use Rattle.script_runner.specs.declared.preparing.Prepared.{Prepared}
-use Rattle.script_actors.specs.Actors.{ComesTo, DeskView, DoesLine, DoneAs, Given, HasEnough, IsGiven, IsGivenFor, acts, asks, called_as, deeds, drawing, drawn_as, followed, is_number_of, is_stop, keeps_side, land_of, lines_of_actor, numbers_asked, own_meaning, refused_as, saying, session_of, with_answer, with_asked, with_drawn, with_number}
+use Rattle.script_actors.specs.Actors.{ComesTo, DeskView, DoesLine, DoneAs, Given, HasEnough, IsGiven, IsGivenFor, acts, asks, called_as, deeds, drawing}
+use Rattle.script_actors.specs.Actors.{drawn_as, followed, is_number_of, is_stop, keeps_side, land_of, lines_of_actor, numbers_asked, own_meaning, refused_as}
+use Rattle.script_actors.specs.Actors.{saying, session_of, with_answer, with_asked, with_drawn, with_number}
 use Rattle.script_actors.specs.Carried.{AsksLine, DrewFor, IsCalled, IsCalledOrWanting, IsDrawnFrom, IsWanted, MayMake}
 use Rattle.script_actors.specs.Doers.{is_done_by}
 use Rattle.script_actors.specs.Drawings.{Asking, Declined, Draws, IsDrawing, Makes, Ready, interval_at, stock_of, with_stock}

@@ -21,7 +21,9 @@ use Rattle.number_ranges.specs.declared.interval.Interval.{Interval}
 use Rattle.script_actors.specs.Actors.{HasEnough, MayAskIn, TakesOne, is_number_of, lines_of_actor, numbers_asked}
 use Rattle.script_actors.specs.Carried.{CanDraw, IsNumberWanted, IsWanted, Knows, LeavesFor, MayMake, TakesFor}
 use Rattle.script_actors.specs.Doers.{is_done_by}
-use Rattle.script_actors.specs.Drawings.{Asking, Called, Declined, DeskEntry, Drawing, Draws, Drew, Makes, asking, capped, count_behind, count_left, drawing_at, ends_unit, interval_at, is_number, number_in, one_number, settles, settling_of, stock_behind, stock_left, stock_of, uncommitted, with_called, with_stock}
+use Rattle.script_actors.specs.Drawings.{Asking, Called, Declined, DeskEntry, Drawing, Draws, Drew, Makes, asking, capped, count_behind, count_left, drawing_at}
+use Rattle.script_actors.specs.Drawings.{ends_unit, interval_at, is_number, number_in, one_number, settles, settling_of, stock_behind, stock_left, stock_of}
+use Rattle.script_actors.specs.Drawings.{uncommitted, with_called, with_stock}
 use Rattle.script_actors.specs.declared.asking.Wanted.{Wanted}
 use Rattle.script_actors.specs.declared.asking.Wanted.TheVariants as wanted
 use Rattle.script_actors.specs.declared.line.NumberedLine.{NumberedLine}

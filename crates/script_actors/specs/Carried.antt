@@ -12,7 +12,8 @@ use Rattle.number_ranges.specs.declared.interval.Interval.{Interval}
 use Rattle.script_actors.specs.Actors.{Deeds, DeskView, Given, HasDraw, IsGivenFor, Land, TakesLine, TakesOne, asks}
 use Rattle.script_actors.specs.Actors.{called_as, drawing}
 use Rattle.script_actors.specs.Actors.{drawn_as, followed, numbers_asked, with_asked, with_drawn}
-use Rattle.script_actors.specs.Drawings.{Asking, Declined, DeskEntry, Draws, IsDrawing, Makes, asking, capped, interval_at}
+use Rattle.script_actors.specs.Drawings.{Asking, Declined, DeskEntry, Draws, IsDrawing, Makes, asking, capped}
+use Rattle.script_actors.specs.Drawings.{interval_at}
 use Rattle.script_actors.specs.Drawings.{stock_of, uncommitted}
 use Rattle.script_actors.specs.declared.actor.Done.{Done}
 use Rattle.script_actors.specs.declared.actor.Done.TheVariants as done

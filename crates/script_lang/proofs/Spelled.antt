@@ -14,9 +14,11 @@ use Rattle.enq_base.specs.declared.owner.UnitKey.{UnitKey}
 use Rattle.enq_base.proofs.lemmas.Numbers.{count_if, unit_key_if}
 use Rattle.mode_rules.specs.Modes.{mode_text}
 use Rattle.script_lang.specs.Parts.{is_raw, is_rest, is_nr, is_blank, IsName, IsRaw, IsValue, AreValues, IsPart, IsWorker}
-use Rattle.script_lang.specs.Reading.{act_line, admin_line, effect_line, key_and, line_of, number_line, object_and_values, request_of, row_line, session_line, update_line, value_of, values_in, values_of, verb_line, with_values, worker_line, worker_of}
+use Rattle.script_lang.specs.Reading.{act_line, admin_line, effect_line, key_and, line_of, number_line, object_and_values, request_of, row_line, session_line}
+use Rattle.script_lang.specs.Reading.{update_line, value_of, values_in, values_of, verb_line, with_values, worker_line, worker_of}
 use Rattle.script_lang.specs.Spelling.{IsLine, Spells, part_text, request_text, scope_text, spelling, value_text, values_text, worker_text}
-use Rattle.script_lang.specs.Words.{change_of, changes, mode_of, modes, monitor_line, monitor_lines, order_line, order_lines, plain_line, plain_lines, scope_of, scopes, server_line, server_lines, unit_line, unit_lines, verb_of, verbs}
+use Rattle.script_lang.specs.Words.{change_of, changes, mode_of, modes, monitor_line, monitor_lines, order_line, order_lines, plain_line, plain_lines, scope_of}
+use Rattle.script_lang.specs.Words.{scopes, server_line, server_lines, unit_line, unit_lines, verb_of, verbs}
 use Rattle.script_lang.specs.declared.request.Request.{Request}
 use Rattle.script_lang.specs.declared.script_line.RawValue.{RawValue}
 use Rattle.script_lang.specs.declared.script_line.ScriptLine.{ScriptLine}

@@ -20,7 +20,8 @@ use Rattle.hall_model.specs.declared.command.Command.{Command}
 use Rattle.hall_model.specs.declared.command.PastEntry.{PastEntry}
 use Rattle.hall_model.specs.declared.command.Reply.{Reply}
 use Rattle.hall_model.specs.declared.command.Reply.TheVariants as reply
-use Rattle.hall_model.specs.Devices.{AllWell, BackupFails, DeviceOutcome, Event, FindsBad, FindsBadStore, LinkFails, MeetsWant, NotRemade, Reading, RemakeFault, StoreFails, Wanting, all_well, fault_told, found_by, is_file_failure, is_store_failure}
+use Rattle.hall_model.specs.Devices.{AllWell, BackupFails, DeviceOutcome, Event, FindsBad, FindsBadStore, LinkFails, MeetsWant, NotRemade, Reading, RemakeFault}
+use Rattle.hall_model.specs.Devices.{StoreFails, Wanting, all_well, fault_told, found_by, is_file_failure, is_store_failure}
 use Rattle.hall_model.specs.History.{doubted, in_flight_after, losing, noted, refused, step}
 use Rattle.hall_calls.specs.Leaving.{HasCounted}
 use Rattle.hall_model.specs.Recall.{HasBegun}
@@ -33,7 +34,8 @@ use Rattle.script_runner.specs.declared.runner.Why.TheVariants.{BackupFault, Bad
 use Rattle.script_runner.specs.Faults.{answer_at, is_unsound, tells_other}
 use Rattle.script_runner.specs.Lines.{Meaning, Silent, Shows, Calls, Declines, Changes, line_in, meaning, settled}
 use Rattle.script_runner.specs.Replay.{HasBadCause, HasDoubtCause, IsDoubted, IsDoubtedBy, IsFoundBad, MeetsBad, Replays, Seen, doubt_of}
-use Rattle.script_runner.specs.Run.{AreAllowed, CallMayHave, LineMayHave, LineOutcome, MayHave, NoRoom, Called, Turn, Turned, Progress, after_turn, answered, begun, does, file_fails, next, run, said, store_fails}
+use Rattle.script_runner.specs.Run.{AreAllowed, CallMayHave, LineMayHave, LineOutcome, MayHave, NoRoom, Called, Turn, Turned, Progress, after_turn, answered}
+use Rattle.script_runner.specs.Run.{begun, does, file_fails, next, run, said, store_fails}
 use Rattle.script_runner.specs.World.{World, setting_of, world}
 use Rattle.script_runner.proofs.Counted.{all_counted, file_fails_in, store_fails_in}
 use Rattle.script_runner.proofs.lemmas.MadeCalls.{file_lines, store_lines}

@@ -23,7 +23,8 @@ use Rattle.script_lang.specs.declared.script_line.ScriptLine.{ScriptLine}
 use Rattle.script_lang.specs.declared.script_line.ScriptLine.TheVariants as line
 use Rattle.script_runner.specs.declared.effects.Verb.{Verb}
 use Rattle.script_runner.specs.declared.effects.Verb.TheVariants as verb
-use Rattle.script_runner.specs.Lines.{Meaning, Silent, Shows, Calls, Declines, Changes, asking, collecting, effect_with, effecting, key_with, line_in, meaning, of_session, registering, requesting, settled, unless_refused}
+use Rattle.script_runner.specs.Lines.{Meaning, Silent, Shows, Calls, Declines, Changes, asking, collecting, effect_with, effecting, key_with, line_in, meaning}
+use Rattle.script_runner.specs.Lines.{of_session, registering, requesting, settled, unless_refused}
 use Rattle.script_runner.specs.Run.{LineOutcome, NoRoom, Called, Turn, Turned, Progress, after_turn, does, next, said}
 use Rattle.script_runner.specs.Sides.{AreLoggedOn, container_of, is_side_of, parts_of, side_of, variables_of, with_new_side, with_side, without_side}
 use Rattle.script_runner.specs.World.{World, setting_of, world}

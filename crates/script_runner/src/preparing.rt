@@ -36,8 +36,8 @@ pub fn prepare(
 ) -> Result<Prepared, Refusal>
     requires part { has_part line.now ≡ true }
     requires replied { line_kind line.now ≡ LineKind.Replied }
-    ensures prepared { IsPrepared (meaning (setting objects.now sides.old.items) line.now) (grows line.now) sides.old.items
-        sides.new.items result }
+    ensures prepared { IsPrepared (meaning (setting objects.now sides.old.items) line.now) (grows line.now)
+        sides.old.items sides.new.items result }
     ensures room { HasRoomFor line.now result sides.new }
 {
     match line {
@@ -141,8 +141,8 @@ fn prepare_other_locks(
     sides: &mut Sides,
 ) -> Result<Prepared, Refusal>
     requires { is_other_lock_line line.now ≡ true }
-    ensures { IsPrepared (meaning (setting objects.now sides.old.items) line.now) (grows line.now) sides.old.items
-        sides.new.items result }
+    ensures { IsPrepared (meaning (setting objects.now sides.old.items) line.now) (grows line.now)
+        sides.old.items sides.new.items result }
 {
     match line {
         ScriptLine::Collect {
@@ -170,8 +170,8 @@ fn prepare_other_locks(
 fn prepare_text(alloc: Global, line: &ScriptLine, sides: &mut Sides) -> Result<Prepared, Refusal>
     requires { is_text_line line.now ≡ true }
     ensures { (objects : List Object)
-        → IsPrepared (meaning (setting objects sides.old.items) line.now) (grows line.now) sides.old.items
-        sides.new.items result }
+        → IsPrepared (meaning (setting objects sides.old.items) line.now) (grows line.now)
+        sides.old.items sides.new.items result }
 {
     match line {
         ScriptLine::Put {
@@ -206,8 +206,8 @@ fn prepare_other_effect(
 ) -> Result<Prepared, Refusal>
     requires { is_other_effect_line line.now ≡ true }
     ensures { (objects : List Object)
-        → IsPrepared (meaning (setting objects sides.old.items) line.now) (grows line.now) sides.old.items
-        sides.new.items result }
+        → IsPrepared (meaning (setting objects sides.old.items) line.now) (grows line.now)
+        sides.old.items sides.new.items result }
 {
     match line {
         ScriptLine::Del {

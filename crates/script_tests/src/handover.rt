@@ -263,9 +263,23 @@ fn the_locks_of_a_unit_that_waits_stand_at_the_next_start(rt: HostRuntime) -> Re
 const FILE: &[u8] = b"ENQBCK01\x01\x01\0\0\0\x2f\0\0\0\x01\0\0\0\x01\0\0\0\x01\
     \x06MILLER\0\0\0\x01\x06ZORDER\x02\0\x01\x0d1000000000001\0";
 
-// The same with its list ended.
+// The same in version 2: the slots behind its list, of which the first names the log at 101, and the log.
+const MIGRATED: &[u8] = b"ENQBCK01\x01\x01\0\0\0\x2f\0\0\0\x01\0\0\0\x01\0\0\0\x01\
+    \x06MILLER\0\0\0\x01\x06ZORDER\x02\0\x01\x0d1000000000001\
+    \x01\x03\0\0\0\x22\x01\0\0\0\0\0\0\0\x01\0\0\0\0\0\0\0\x65\0\0\0\0\0\0\0\0\0\0\0\0\0\0\0\0\0\
+    \x01\x01\0\0\0\x2f\0\0\0\x01\0\0\0\x01\0\0\0\x01\
+    \x06MILLER\0\0\0\x01\x06ZORDER\x02\0\x01\x0d1000000000001\0";
+
+// The same with its list ended, and a log without records at 173, which the second slot names.
 const FREED: &[u8] = b"ENQBCK01\x01\x01\0\0\0\x2f\0\0\0\x01\0\0\0\x01\0\0\0\x01\
-    \x06MILLER\0\0\0\x01\x06ZORDER\x02\0\x01\x0d1000000000001\x01\x02\0\0\0\x0c\0\0\0\x01\0\0\0\x01\0\0\0\x01\0";
+    \x06MILLER\0\0\0\x01\x06ZORDER\x02\0\x01\x0d1000000000001\
+    \x01\x03\0\0\0\x22\x01\0\0\0\0\0\0\0\x01\0\0\0\0\0\0\0\x65\x01\0\0\0\0\0\0\0\x02\0\0\0\0\0\0\0\xad\
+    \x01\x01\0\0\0\x2f\0\0\0\x01\0\0\0\x01\0\0\0\x01\
+    \x06MILLER\0\0\0\x01\x06ZORDER\x02\0\x01\x0d1000000000001\x01\x02\0\0\0\x0c\0\0\0\x01\0\0\0\x01\0\0\0\x01\0\0";
+
+// A file without lists, as it is made anew.
+const ANEW: &[u8] = b"ENQBCK01\
+    \x01\x03\0\0\0\x22\x01\0\0\0\0\0\0\0\x01\0\0\0\0\0\0\0\x30\0\0\0\0\0\0\0\0\0\0\0\0\0\0\0\0\0\0";
 
 // Opens a file without a row in the store, and tells the file behind it.
 fn file_behind<R: Abort + Threads + Wait + Sync>(
@@ -278,11 +292,13 @@ fn file_behind<R: Abort + Threads + Wait + Sync>(
     Ok(next.disk.image(alloc, 1)?)
 }
 
-// A list whose unit was never recorded is ended, and nothing else is written.
+// A list whose unit was never recorded is ended, and then the log is written anew.
 #[test]
 fn a_list_without_its_unit_is_freed(rt: HostRuntime) -> Result<(), Fail> {
     let bytes = file_behind(&rt, rt.alloc(), FILE)?;
     assert_eq!(rt; (FILE.len(), bytes.as_slice()), (62, FREED));
+    let anew = file_behind(&rt, rt.alloc(), b"")?;
+    assert_eq!(rt; (ANEW.len(), anew.as_slice()), (49, ANEW));
     Ok(())
 }
 
@@ -305,7 +321,7 @@ const BROKEN: [(&[u8], u64); 4] = [
     (b"ENQBACK1\0\0\0", 0),
 ];
 
-// Tests that the program ended, no line was read, and the file is as it was.
+// Tests that the program ended, no line was read, and the file has these bytes.
 fn check_refused(
     rt: &impl Abort,
     alloc: Global,
@@ -362,12 +378,13 @@ const UNIT: UnitKey = UnitKey {
     luw: 1,
 };
 
-// The store has a unit's locks, of which the file lacks the one of this place.
+// The store has a unit's locks, of which the file lacks the one of this place. It is left as one of version 2.
 fn lacks<R: Abort + Threads + Wait + Sync>(
     rt: &R,
     alloc: Global,
     script: &'static [u8],
     file: &[u8],
+    left: &[u8],
     at: u32,
 ) -> Result<(), Fail> {
     let disk = disk_of(alloc, file)?;
@@ -377,7 +394,7 @@ fn lacks<R: Abort + Threads + Wait + Sync>(
         rt,
         alloc,
         &ended,
-        file,
+        left,
         BackupBad::Missing { unit: UNIT, at },
     )
 }
@@ -391,6 +408,6 @@ const TWO_LOCKS: &[u8] = b"A LOGON MILLER\n\
 // Two locks where the unit's list has one, or none where it has one.
 #[test]
 fn a_file_that_lacks_a_lock_is_told(rt: HostRuntime) -> Result<(), Fail> {
-    lacks(&rt, rt.alloc(), COMMIT, b"ENQBCK01\0", 1)?;
-    lacks(&rt, rt.alloc(), TWO_LOCKS, FILE, 2)
+    lacks(&rt, rt.alloc(), COMMIT, b"ENQBCK01\0", ANEW, 1)?;
+    lacks(&rt, rt.alloc(), TWO_LOCKS, FILE, MIGRATED, 2)
 }

@@ -1,5 +1,6 @@
 -- A good store breaks no rule on its intervals.
-use Rattle.std.proofs.Common.{◌≡◌, ℕ, ◌+◌, ◌≤◌, inl, inr, Bool, true, false, not, ◌&&◌, nat_eq, nat_le, List, [], ◌∷◌, ◌++◌, length, Some, None, IfSome, is_some, if◌then◌else◌, Contains, refl, ap, subst, ◌∙◌, arith}
+use Rattle.std.proofs.Common.{◌≡◌, ℕ, ◌+◌, ◌≤◌, inl, inr, Bool, true, false, not, ◌&&◌, nat_eq, nat_le, List, [], ◌∷◌, ◌++◌, length, Some, None, IfSome}
+use Rattle.std.proofs.Common.{is_some, if◌then◌else◌, Contains, refl, ap, subst, ◌∙◌, arith}
 use Rattle.std.specs.List.{AllByRecursion, IsDistinct, list_all}
 use Rattle.std.specs.Option.{IsSome, option_map_or}
 use Rattle.std.specs.FinMap.{get}

@@ -1,5 +1,6 @@
 -- The tables of a good store as lists: the start number, the marks, and the effects and locks of each unit.
-use Rattle.std.proofs.Common.{◌≡◌, ℕ, ◌+◌, ◌≤◌, Bool, true, false, cond, ◌&&◌, nat_eq, List, [], ◌∷◌, ◌++◌, length, Option, Some, None, filter, if◌then◌else◌, Contains, refl, sym, ap, subst, ◌∙◌, arith}
+use Rattle.std.proofs.Common.{◌≡◌, ℕ, ◌+◌, ◌≤◌, Bool, true, false, cond, ◌&&◌, nat_eq, List, [], ◌∷◌, ◌++◌, length, Option, Some, None, filter, if◌then◌else◌}
+use Rattle.std.proofs.Common.{Contains, refl, sym, ap, subst, ◌∙◌, arith}
 use Rattle.std.specs.Option.{option_map_or}
 use Rattle.std.proofs.lemmas.Bool.{and_from, eq-eqb, eqb-true}
 use Rattle.enq_base.specs.Owners.{same_unit}
@@ -17,7 +18,8 @@ use Rattle.store_reading.specs.Posts.{effect_in, effects_of}
 use Rattle.store_reading.specs.Told.{records_in}
 use Rattle.store_reading.proofs.lemmas.Elements.{contains_here, contains_none, of_map}
 use Rattle.store_reading.proofs.lemmas.Followings.{HaveEffects}
-use Rattle.store_laws.proofs.GoodTables.{first_in, key_in, lock_is, locks_in, locks_rise, mark_of, of_unit, records_of_marks_rise, second_in, side, start_of, step_is, step_part, steps_rise, table_in, told_mark, told_start, told_unit, unit_cases, AreRecordsOf, HasPart}
+use Rattle.store_laws.proofs.GoodTables.{first_in, key_in, lock_is, locks_in, locks_rise, mark_of, of_unit, records_of_marks_rise, second_in, side, start_of}
+use Rattle.store_laws.proofs.GoodTables.{step_is, step_part, steps_rise, table_in, told_mark, told_start, told_unit, unit_cases, AreRecordsOf, HasPart}
 use Rattle.store_laws.proofs.InOrder.{Rises, contains_filter, of_filter, one_list, rises_filter}
 use Rattle.store_laws.proofs.KeysApart.{KeysApart, found_unit, keys_of, one_unit_of, recorded_apart, unit_found}
 use Rattle.store_laws.proofs.LedgerRecords.{mark_records, marks_rise, only, start_record, unit_law}

@@ -1,5 +1,6 @@
 -- A good store breaks no rule on units.
-use Rattle.std.proofs.Common.{◌≡◌, ℕ, ◌+◌, ◌≤◌, ◌<◌, ⊎_elim, Bool, true, false, cond, ◌&&◌, ◌||◌, nat_eq, nat_le, map, List, [], ◌∷◌, ◌++◌, length, Option, Some, None, filter, flat_map, if◌then◌else◌, Contains, refl, sym, ap, subst, ◌∙◌, arith}
+use Rattle.std.proofs.Common.{◌≡◌, ℕ, ◌+◌, ◌≤◌, ◌<◌, ⊎_elim, Bool, true, false, cond, ◌&&◌, ◌||◌, nat_eq, nat_le, map, List, [], ◌∷◌, ◌++◌, length, Option}
+use Rattle.std.proofs.Common.{Some, None, filter, flat_map, if◌then◌else◌, Contains, refl, sym, ap, subst, ◌∙◌, arith}
 use Rattle.std.specs.List.{AllByRecursion, list_all, range_with_len}
 use Rattle.std.specs.Option.{option_or}
 use Rattle.std.proofs.lemmas.Bool.{and_from, eq-eqb, le-leb}
@@ -25,7 +26,8 @@ use Rattle.record_laws.proofs.Books.{is_unit_table}
 use Rattle.store_reading.specs.First.{first_wrong, AreRight}
 use Rattle.store_reading.specs.Rules.{marks_in}
 use Rattle.store_reading.specs.Told.{records_in}
-use Rattle.store_reading.specs.Units.{counts_at, differ, effects_in, has_distinct_locks, has_few, has_part, has_parts, has_row, has_rows, is_counted, is_named_for, is_recorded_header, is_right_unit, is_row, is_whole, names_in, unit_fault}
+use Rattle.store_reading.specs.Units.{counts_at, differ, effects_in, has_distinct_locks, has_few, has_part, has_parts, has_row, has_rows, is_counted}
+use Rattle.store_reading.specs.Units.{is_named_for, is_recorded_header, is_right_unit, is_row, is_whole, names_in, unit_fault}
 use Rattle.store_reading.specs.declared.counts.Counts.{Counts}
 use Rattle.store_reading.specs.declared.rules.Place.{Place}
 use Rattle.store_reading.proofs.lemmas.BooksStand.{first_recorded, key_recorded, keys_after}

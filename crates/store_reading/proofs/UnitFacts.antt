@@ -1,5 +1,6 @@
 -- Records whose units are right have exactly the rows of the recorded units.
-use Rattle.std.proofs.Common.{◌≡◌, ℕ, zero, suc, ◌≤◌, ◌⊎◌, inl, inr, Bool, true, false, cond, ◌&&◌, ◌||◌, nat_eq, List, [], ◌∷◌, ◌++◌, map, length, if◌then◌else◌, Some, None, refl, sym, ap, subst, ◌∙◌, arith}
+use Rattle.std.proofs.Common.{◌≡◌, ℕ, zero, suc, ◌≤◌, ◌⊎◌, inl, inr, Bool, true, false, cond, ◌&&◌, ◌||◌, nat_eq, List, [], ◌∷◌, ◌++◌, map, length}
+use Rattle.std.proofs.Common.{if◌then◌else◌, Some, None, refl, sym, ap, subst, ◌∙◌, arith}
 use Rattle.std.specs.List.{filter, flat_map, list_any}
 use Rattle.std.specs.Option.{option_map_or}
 use Rattle.std.proofs.lemmas.Bool.{and_from, and_parts, eqb-true, eq-eqb, leb-true, or_cases}
@@ -20,7 +21,8 @@ use Rattle.record_laws.proofs.Status.{one_unit, unit_refl}
 use Rattle.store_reading.specs.Posts.{effects_of}
 use Rattle.store_reading.specs.Rules.{marks_in}
 use Rattle.store_reading.specs.Stores.{entry_in, unit_in, user_at}
-use Rattle.store_reading.specs.Units.{counts_at, effects_in, has_few, has_part, has_parts, has_row, has_rows, is_counted, is_recorded, is_recorded_header, is_right_unit, is_row, is_whole, no_counts, records_unit}
+use Rattle.store_reading.specs.Units.{counts_at, effects_in, has_few, has_part, has_parts, has_row, has_rows, is_counted, is_recorded, is_recorded_header}
+use Rattle.store_reading.specs.Units.{is_right_unit, is_row, is_whole, no_counts, records_unit}
 use Rattle.store_reading.specs.declared.counts.Counts.{Counts}
 use Rattle.store_reading.proofs.Heads.{Head, HasHead, IsBare, IsHeaded, counted, head_or_none, headed, header_with}
 use Rattle.store_reading.proofs.Places.{is_own, locks_are, own_rows, place_of, run_own, steps_are}

@@ -22,7 +22,8 @@ use Rattle.script_actors.specs.declared.line.NumberedLine.{NumberedLine}
 use Rattle.script_runner.specs.Faults.{NoneTells, answer_at, tells_other}
 use Rattle.script_runner.specs.Replay.{IsDoubted, Seen, doubt_of}
 use Rattle.script_runner.specs.declared.runner.Why.{Why}
-use Rattle.script_runner.specs.declared.runner.Why.TheVariants.{Done, BadWords, BadLandscape, BadLine, SourceFault, SinkFault, LongLine, ManyLines, StoreFault, BackupFault, BadStore, BadBackup, NoStart, NoMemory, LogFull}
+use Rattle.script_runner.specs.declared.runner.Why.TheVariants.{Done, BadWords, BadLandscape, BadLine, SourceFault, SinkFault, LongLine, ManyLines, StoreFault}
+use Rattle.script_runner.specs.declared.runner.Why.TheVariants.{BackupFault, BadStore, BadBackup, NoStart, NoMemory, LogFull}
 use Rattle.turn_desks.specs.Led.{Counts, IsLed}
 use Rattle.whole_script.specs.Reading.{BlamesFirst, IsRead, IsReadingEnd}
 use Rattle.thread_runner.specs.Acting.{DoesScript}

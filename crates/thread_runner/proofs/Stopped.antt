@@ -12,7 +12,8 @@ use Rattle.hall_model.specs.declared.command.Reply.TheVariants as reply
 use Rattle.hall_model.specs.declared.command.Who.{Who}
 use Rattle.number_ranges.specs.declared.interval.Interval.{Interval}
 use Rattle.order_laws.specs.Behind.{is_no_memory, wants}
-use Rattle.script_actors.specs.Actors.{AddsDone, DeskView, Deeds, DoesLine, DoesLines, Given, IsGiven, IsGivenFor, Land, acts, asks, drawing, full_after, is_full, is_stop, lines_of_actor, no_deeds, own_meaning, session_of, with_asked, with_drawn}
+use Rattle.script_actors.specs.Actors.{AddsDone, DeskView, Deeds, DoesLine, DoesLines, Given, IsGiven, IsGivenFor, Land, acts, asks, drawing, full_after}
+use Rattle.script_actors.specs.Actors.{is_full, is_stop, lines_of_actor, no_deeds, own_meaning, session_of, with_asked, with_drawn}
 use Rattle.script_actors.specs.Drawings.{Asking, Called, Declined, DeskCall, DeskEntry, Drawing, Draws, Drew, IsDrawing, Makes, Ready, Refused, Reserved, Unkept, asking, calls_in, calls_of, desk_call}
 use Rattle.script_actors.specs.declared.actor.Said.{Said}
 use Rattle.script_actors.specs.declared.line.NumberedLine.{NumberedLine}

@@ -1,5 +1,6 @@
 -- The stocks of a run, before its first call and behind its last.
-use Rattle.std.specs.Prelude.{◌≡◌, ◌<◌, ◌≤◌, ◌+◌, ◌-◌, ℕ, zero, suc, All, Bool, true, false, Contains, List, [], ◌∷◌, ◌++◌, count_by, map}
+use Rattle.std.specs.Prelude.{◌≡◌, ◌<◌, ◌≤◌, ◌+◌, ◌-◌, ℕ, zero, suc, All, Bool, true, false, Contains, List, [], ◌∷◌}
+use Rattle.std.specs.Prelude.{◌++◌, count_by, map}
 use Rattle.std.specs.Prelude.{Some, if◌then◌else◌, slice_get}
 use Rattle.std.specs.List.{AllByRecursion, sum_by}
 use Rattle.std.specs.List.Sorted.{IsNonDecreasingBy, IsPermutation}
@@ -52,7 +53,8 @@ pub record AreBegun (s : State) (intervals : List Interval) (facts : List StockF
   pub rights : AreRightsAt facts seats
   pub lots : AreLotsBy s facts seats
   -- the first ticket's number is the one behind the level
-  pub bases : map (λ (f : StockFact). f.base) facts ≡ map (λ (f : StockFact). level_in s.stored.levels f.interval + 1) facts
+  pub bases :
+      map (λ (f : StockFact). f.base) facts ≡ map (λ (f : StockFact). level_in s.stored.levels f.interval + 1) facts
 
 -- these lines ask for numbers of no other interval with a buffer
 abbrev pub Cover : List Interval → List StockFact → List NumberedLine → Type 0

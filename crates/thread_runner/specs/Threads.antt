@@ -136,7 +136,8 @@ IsEndOfRun land lines s callers did old new (BadBackup place) =
     IsDoneWhole land lines s callers did old new × IsDoubtedBy s (refusal.Unsound (bad.Backup place))
 IsEndOfRun land lines s callers did old new SinkFault = IsReportCut s old new
 IsEndOfRun land lines s callers did old new NoMemory = BeginsReport s old new
-IsEndOfRun land lines s callers did old new LogFull = IsReported lines s (all_answers land lines s.past callers did) old new × (length s.past ≡ 262144)
+IsEndOfRun land lines s callers did old new LogFull =
+    IsReported lines s (all_answers land lines s.past callers did) old new × (length s.past ≡ 262144)
 IsEndOfRun land lines s callers did old new why = ⊥
 
 -- what threads have done with these lines from a first state on, what they drew, and how it ended
@@ -148,8 +149,8 @@ pub record HaveDone (land : Land) (lines : List NumberedLine) (workers : ℕ) (f
   pub numbers : DrawsNumbers land lines first s (threads_of lines workers) did drawn
   pub end : IsEndOfRun land lines s (threads_of lines workers) did old new why
 
--- The script wasn't read to its end, or memory was wanting before its first call: no call was made, no number was drawn,
--- and nothing was written. Of its bytes these were read.
+-- The script wasn't read to its end, or memory was wanting before its first call: no call was made, no number was
+-- drawn, and nothing was written. Of its bytes these were read.
 pub record EndsReading (before after : State) (drawn : List Drawing) (old new : Seen) (why : Why) : Type 0 where
   pub bytes : List ℕ
   pub read : Consumes old.left new.left bytes

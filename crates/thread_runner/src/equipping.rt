@@ -41,8 +41,8 @@ pub(crate) fn equip_all<S: History<Entry = PastEntry>>(
     ensures limits { limits_of rights.new.items ≡ limits_of rights.old.items }
     ensures handed { answered_of rights.new.items ≡ answered_of rights.old.items }
     ensures who { IfOk result (λ kits. map (λ k. k.who) kits.items ≡ callers.now) }
-    ensures kits { IfOk result (λ kits. (intervals : List Interval) → AreApart intervals → AreOfLand intervals (map fact_of stocks.now)
-        → Cover intervals (map fact_of stocks.now) lines.now
+    ensures kits { IfOk result (λ kits. (intervals : List Interval) → AreApart intervals
+        → AreOfLand intervals (map fact_of stocks.now) → Cover intervals (map fact_of stocks.now) lines.now
         → AllByRecursion (IsKitFor intervals (map fact_of stocks.now) lines.now) kits.items) }
 {
     let mut kits = VecDeque::new(alloc);
@@ -66,8 +66,8 @@ fn equip<S: History<Entry = PastEntry>>(
     ensures limits { limits_of rights.new.items ≡ limits_of rights.old.items }
     ensures handed { answered_of rights.new.items ≡ answered_of rights.old.items }
     ensures who { IfOk result (λ k. k.who ≡ who.now) }
-    ensures kit { IfOk result (λ k. (intervals : List Interval) → AreApart intervals → AreOfLand intervals (map fact_of stocks.now)
-        → Cover intervals (map fact_of stocks.now) lines.now
+    ensures kit { IfOk result (λ k. (intervals : List Interval) → AreApart intervals
+        → AreOfLand intervals (map fact_of stocks.now) → Cover intervals (map fact_of stocks.now) lines.now
         → IsKitFor intervals (map fact_of stocks.now) lines.now k) }
 {
     let counts = counts_for(alloc, who, lines, stocks)?;

@@ -1,5 +1,5 @@
-//! A script done by threads: each session, the administrator and so many workers, over one hall behind one turn; and what
-//! is written of it: the history, the answers beside it, the monitors.
+//! A script done by threads: each session, the administrator and so many workers, over one hall behind one turn; and
+//! what is written of it: the history, the answers beside it, the monitors.
 #![tactic(auto)]
 
 mod answers;

@@ -64,10 +64,10 @@ use turn_lock::{Pass, TurnLock};
 use whole_script::{Script, read_script};
 
 /// Reads a whole script, and then has its sessions, the administrator and so many workers do their work as threads,
-/// each call of theirs in a turn of its own. Numbers of an interval with a buffer are drawn without one, from a stock of
-/// the interval, and with a call that reserves more where it is dry. Then it writes the history, what the lines were
-/// answered whose answer isn't in it, and what the monitors show. The calls of each session and of the administrator are
-/// those of its lines, in order. It gives the numbers that were drawn from stocks, in the order of their lines.
+/// each call of theirs in a turn of its own. Numbers of an interval with a buffer are drawn without one, from a stock
+/// of the interval, and with a call that reserves more where it is dry. Then it writes the history, what the lines were
+/// answered whose answer isn't in it, and what the monitors show. The calls of each session and of the administrator
+/// are those of its lines, in order. It gives the numbers that were drawn from stocks, in the order of their lines.
 pub fn run<
     R: Threads + Wait + Sync,
     S: Source,
@@ -452,7 +452,8 @@ fn end_all<'g, M: LockName, J: Origin, R: Wait, T: LockStore, K: Keeper, D: Disk
     requires seats { AllSeats M.stocks (reverse left.deeds.items) (map (λ v. v.items) left.seats.items) }
     requires room { (room.items ≡ []) × (length (drawn_in_deeds left.deeds.items) ≤ vec_capacity room) }
     ensures looked { LooksLast shown.entry.served.hall.state result.0.hall.state left.deeds.items result.1.items }
-    ensures seen { ∥ AllByRecursion (λ p. HasShown J.first shown.entry.served.hall.state (seen_by p)) left.glances.items ∥₁ }
+    ensures seen { ∥ AllByRecursion (λ p. HasShown J.first shown.entry.served.hall.state (seen_by p))
+        left.glances.items ∥₁ }
     ensures all { IsPermutation (drawn_in_deeds result.1.items) result.2.items }
     ensures order { IsNonDecreasingBy (λ d. d.line) result.2.items }
     ensures within { ∥ AreWithinStocks result.0.hall.state M.stocks result.2.items ∥₁ }
@@ -529,7 +530,8 @@ fn act_in_turn<
     ensures long { IfOk result (λ r. AllByRecursion (IsLong (known r.0).seen) r.1.deeds.items) }
     ensures glances { IfOk result (λ r. reverse (map glance_of r.1.deeds.items) ≡ r.1.glances.items) }
     ensures readers { IfOk result (λ r. AllByRecursion (IsReaderAt N.board) r.1.glances.items) }
-    ensures seats { IfOk result (λ r. AllSeats S.stocks (reverse r.1.deeds.items) (map (λ v. v.items) r.1.seats.items)) }
+    ensures seats { IfOk result
+        (λ r. AllSeats S.stocks (reverse r.1.deeds.items) (map (λ v. v.items) r.1.seats.items)) }
 {
     let count = kits.len();
     let Ok(actors) = Vec::with_capacity(alloc, count) else {
@@ -592,7 +594,8 @@ fn work_in_turn<
     requires some { 0 < length kits.items }
     requires kits { AllByRecursion (IsKitFor N.intervals S.stocks common.now.lines.now) kits.items }
     requires parts { AllByRecursion (λ l. has_part l.line ≡ true) common.now.lines.now }
-    requires none { (actors.items ≡ []) × (left.deeds.items ≡ []) × (left.glances.items ≡ []) × (left.seats.items ≡ []) }
+    requires none { (actors.items ≡ []) × (left.deeds.items ≡ []) × (left.glances.items ≡ [])
+        × (left.seats.items ≡ []) }
     requires room { (length kits.items ≤ vec_capacity actors) × (length kits.items ≤ vec_capacity left.deeds)
         × (length kits.items ≤ vec_capacity left.glances) × (length kits.items ≤ vec_capacity left.seats) }
     ensures own { IsPassOf common.now.lock.now result.0 }

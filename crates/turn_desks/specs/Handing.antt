@@ -1,5 +1,6 @@
 -- What becomes of rights as seats are compared with them, and hand their tickets over.
-use Rattle.std.specs.Prelude.{◌≡◌, ◌+◌, ◌-◌, ◌≤◌, ℕ, Bool, List, [], ◌∷◌, ◌++◌, if◌then◌else◌, Option, Some, None, set, slice_get}
+use Rattle.std.specs.Prelude.{◌≡◌, ◌+◌, ◌-◌, ◌≤◌, ℕ, Bool, List, [], ◌∷◌, ◌++◌, if◌then◌else◌, Option, Some, None, set}
+use Rattle.std.specs.Prelude.{slice_get}
 use Rattle.number_stock.specs.Rule.{AreOnce, IsSame, both_of, heard, raised, rest_of, unused_of}
 use Rattle.number_stock.specs.Seats.{hand, IsSeatOf}
 use Rattle.number_stock.specs.declared.hand.Hand.{Hand}

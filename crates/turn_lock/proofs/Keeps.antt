@@ -1,5 +1,6 @@
 -- Each step keeps the rule of the lock.
-use Rattle.std.proofs.Common.{◌≡◌, ◌≢◌, ◌⊎◌, inl, inr, ℕ, zero, suc, ◌+◌, ◌-◌, ◌%◌, ◌<◌, ◌≤◌, ◌==◌, ltb, Bool, true, false, if◌then◌else◌, List, [], ◌∷◌, ◌++◌, length, All, set, slice_index, Option, Some, None, sym, refl, ap, subst, ⊎_elim, ◌∙◌, arith, eq-eqb, ne_eqb}
+use Rattle.std.proofs.Common.{◌≡◌, ◌≢◌, ◌⊎◌, inl, inr, ℕ, zero, suc, ◌+◌, ◌-◌, ◌%◌, ◌<◌, ◌≤◌, ◌==◌, ltb, Bool, true, false, if◌then◌else◌, List, [], ◌∷◌, ◌++◌}
+use Rattle.std.proofs.Common.{length, All, set, slice_index, Option, Some, None, sym, refl, ap, subst, ⊎_elim, ◌∙◌, arith, eq-eqb, ne_eqb}
 use Rattle.std.specs.List.{sum_by}
 use Rattle.std.proofs.lemmas.List.Sums.{sum_by_push, sum_by-cons}
 use Rattle.std.proofs.lemmas.List.Elements.{All-append}
@@ -18,7 +19,8 @@ use Rattle.seat_sums.proofs.lemmas.Totals.{total_set, total_at, total_whole, tot
 use Rattle.turn_lock.specs.declared.view.View.{View}
 use Rattle.turn_lock.specs.declared.view.Turn.{Turn}
 use Rattle.turn_lock.specs.declared.view.Turn.TheVariants.{Rests, Waits, Holds}
-use Rattle.turn_lock.specs.Rule.{has_ticket, ticket_of, is_holding, numbers, TurnFits, Fits, IsHome, IsOut, Kept, opener, spent, waits, took, gave, called, own_entries, Stands, kept_of, given_of, longer_of, both_of, SeatState, Tickets, Looks, Gives, Learns}
+use Rattle.turn_lock.specs.Rule.{has_ticket, ticket_of, is_holding, numbers, TurnFits, Fits, IsHome, IsOut, Kept, opener, spent, waits, took, gave, called}
+use Rattle.turn_lock.specs.Rule.{own_entries, Stands, kept_of, given_of, longer_of, both_of, SeatState, Tickets, Looks, Gives, Learns}
 use Rattle.seat_sums.proofs.lemmas.Beginnings.{whole_is_front, front_of_front, fronts_agree, front_is_all, front_is_short}
 use Rattle.turn_lock.proofs.Entries.{each_number, whole_own, own_stands}
 use Rattle.std.specs.List.Sorted.{IsPermutation}

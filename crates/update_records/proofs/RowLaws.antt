@@ -57,7 +57,7 @@ unfolding key_at
 is_key_field = is_tested (λ (t : List ℕ). IsTrue (is_key t)) is_key is_short (λ a is e. e) (λ a is. (key_fits a is, is))
 
 pattern_fits : (t : List ℕ) → IsTrue (is_pattern t) → length t < 256
-pattern_fits t is = short_enough t 150 (list_all is_text_byte t && leb 1 (length t)) (omega arith) is
+pattern_fits t is = short_enough t 255 (list_all is_text_byte t && leb 1 (length t)) (omega arith) is
 
 pub is_pattern_field : IsField (λ (t : List ℕ). IsTrue (is_pattern t)) short pattern_at
 unfolding pattern_at

@@ -1,5 +1,6 @@
 -- A record that is read is the record that was written, and what was written is read again.
-use Rattle.std.proofs.Common.{◌≡◌, ℕ, ◌^◌, ◌<◌, ◌≤◌, Bool, true, false, ◌&&◌, cond, ltb, eqb, leb, List, [], ◌∷◌, ◌++◌, length, take, drop, Some, None, refl, sym, ap, subst, ◌∙◌, append_assoc, arith, inl, inr}
+use Rattle.std.proofs.Common.{◌≡◌, ℕ, ◌^◌, ◌<◌, ◌≤◌, Bool, true, false, ◌&&◌, cond, ltb, eqb, leb, List, [], ◌∷◌, ◌++◌, length, take, drop, Some, None, refl}
+use Rattle.std.proofs.Common.{sym, ap, subst, ◌∙◌, append_assoc, arith, inl, inr}
 use Rattle.std.specs.Prelude.{IsTrue}
 use Rattle.std.specs.List.{flat_map, AllByRecursion}
 use Rattle.std.specs.Int.{w16, w32, to_be_bytes}
@@ -18,8 +19,7 @@ use Rattle.backup_file.specs.Spelling.{unit_bytes, short, entry_bytes, user_of, 
 use Rattle.backup_file.specs.Reading.{short_at, unit_at, mode_at, count_at, entry_at, hand_of, free_of, payload_of, record_at}
 use Rattle.byte_fields.specs.Fields.{◌>>=◌, many, number_at}
 use Rattle.byte_fields.proofs.lemmas.FieldLaws.{IsBytes-take, IsBytes-drop, IsBytes-rest, IsField, Takes, Takes-then, bind_some, pass_some, chosen, some_is, none_is, is_many, wide32}
-use Rattle.gate_log.specs.Grammars.{IsBytes, IsReader}
-use Rattle.backup_file.specs.File.{grammar}
+use Rattle.gate_log.specs.Grammars.{IsBytes}
 use Rattle.backup_file.proofs.Fields.{both_true, number_takes, number_again, short_takes, short_again, mode_takes, mode_again, count_takes, count_again, unit_takes, unit_again}
 
 -- ---- entries
@@ -242,10 +242,3 @@ record_again r rest is =
           (length body) refl,
       payload_again r is.held,
     ) refl
-
--- what is read at the front of bytes is the record that is spelled there
-pub record_reader : IsReader grammar record_at
-record_reader = record {
-  takes = λ bytes r rest fits e. let t = record_takes bytes r rest fits e in (t.0.parts, t.1);
-  again = record_again;
-}

@@ -48,7 +48,7 @@ has-without u v (h ∷ l) =
           ∙ stayed (same_unit h.unit u) (same_unit v u) (has_unit u l) (λ own. flipped v u ∙ ap (λ k. same_unit k v) (sym (same_key h.unit u own)) ∙ other)
     ]
 
-has-push : (u : UnitKey) (l : List Handed) (h : Handed) → has_unit u (l ++ h ∷ []) ≡ (same_unit h.unit u || has_unit u l)
+pub has-push : (u : UnitKey) (l : List Handed) (h : Handed) → has_unit u (l ++ h ∷ []) ≡ (same_unit h.unit u || has_unit u l)
 has-push u [] h = refl
 has-push u (g ∷ l) h = ap (λ b. same_unit g.unit u || b) (has-push u l h) ∙ exchanged (same_unit g.unit u) (same_unit h.unit u) (has_unit u l)
   where

@@ -96,7 +96,8 @@ still_right other drawn (Some l) none right = record {
   drawn = subst (AreDrawn l.buffered l) (sym none) right.drawn;
 }
 
-all_right : (levels : Levels) (n : ℕ) (drawn : List Number) → LevelsAgree levels [] → IsRightLevel name drawn (level n) → ((other : RowName) → same_row other name ≡ false → numbers_from other drawn ≡ [])
+all_right : (levels : Levels) (n : ℕ) (drawn : List Number) → LevelsAgree levels [] → IsRightLevel name drawn (level n)
+    → ((other : RowName) → same_row other name ≡ false → numbers_from other drawn ≡ [])
     → (other : RowName) → IfSome (get (insert levels name (level n)) other) (IsRightLevel other drawn)
 all_right levels n drawn before right none other =
     subst (λ o. IfSome o (IsRightLevel other drawn)) (sym (get-insert rows_total levels name (level n) other))
@@ -119,7 +120,8 @@ none_in : (ns : List Number) (count : ℕ) → count ≡ length ns → count ≡
 none_in [] count is none = refl
 none_in (n ∷ ns) count is none = absurd (omega arith)
 
-first : (ledger : Ledger) (n : ℕ) (drawn : List Number) → numbers_of ledger.units ledger.marks ≡ [] → IsRightLevel name drawn (level n) → ((other : RowName) → same_row other name ≡ false → numbers_from other drawn ≡ [])
+first : (ledger : Ledger) (n : ℕ) (drawn : List Number) → numbers_of ledger.units ledger.marks ≡ [] → IsRightLevel name drawn (level n)
+    → ((other : RowName) → same_row other name ≡ false → numbers_from other drawn ≡ [])
     → All (Stored ledger.levels n) drawn → MayStore ledger (interval n ∷ []) drawn
 unfolding IsDistinct
 first ledger n drawn nothing right none stored = record {
@@ -136,7 +138,8 @@ may_store ledger count i counted zero is =
     (first ledger 0 [] (none_in (numbers_of ledger.units ledger.marks) count counted zero) none_drawn (λ other apart. refl) (All-nil (Stored ledger.levels 0)))
 
 -- and with its first two numbers
-pub may_draw : (ledger : Ledger) (count : ℕ) (i : StoredInterval) (drawn : List Number) → count ≡ length (numbers_of ledger.units ledger.marks) → count ≡ 0 → i ≡ interval 2 → drawn ≡ numbers → MayStore ledger (i ∷ []) drawn
+pub may_draw : (ledger : Ledger) (count : ℕ) (i : StoredInterval) (drawn : List Number) → count ≡ length (numbers_of ledger.units ledger.marks) → count ≡ 0 → i ≡ interval 2 → drawn ≡ numbers
+    → MayStore ledger (i ∷ []) drawn
 may_draw ledger count i drawn counted zero is are =
     subst (MayStore ledger (i ∷ [])) (sym are)
     (subst (λ (j : StoredInterval). MayStore ledger (j ∷ []) numbers) (sym is)

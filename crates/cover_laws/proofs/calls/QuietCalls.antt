@@ -23,7 +23,8 @@ use Rattle.hall_model.specs.OpenUnits.{HoldsOpenUnits}
 use Rattle.hall_model.specs.Recall.{IsModelAnswer, Made, again, recalled, state_after}
 use Rattle.hall_model.specs.Sessions.{session_at, unit_key}
 use Rattle.hall_model.specs.State.{State, is_honest}
-use Rattle.hall_model.specs.Step.{Found, Verdict, Refuses, Leaves, barred, call_verdict, called, caller_refusal, commit, committed, detached, effects_in, numbered, or_else, own_verdict, passing, server_refusal, session_call, unavailable, unless_refused}
+use Rattle.hall_model.specs.Step.{Found, Verdict, Refuses, Leaves, barred, call_verdict, called, caller_refusal, commit, committed, detached, effects_in}
+use Rattle.hall_model.specs.Step.{numbered, or_else, own_verdict, passing, server_refusal, session_call, unavailable, unless_refused}
 use Rattle.hall_model.specs.declared.command.PastEntry.{PastEntry}
 use Rattle.hall_model.specs.declared.command.Reply.{Reply}
 use Rattle.hall_model.specs.declared.command.Reply.TheVariants as reply

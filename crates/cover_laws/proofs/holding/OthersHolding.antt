@@ -33,7 +33,8 @@ use Rattle.hall_model.specs.OpenUnits.{IsOpenOwner}
 use Rattle.hall_model.specs.Orders.{order_of}
 use Rattle.hall_model.specs.Sessions.{begun, bereft_if, pair_of, session_at, unit_key, with_draw, with_fresh_unit, with_mark, with_next_unit, with_session, without_draws}
 use Rattle.hall_model.specs.State.{State, table_for, unhanded}
-use Rattle.hall_model.specs.Step.{Found, Verdict, attached, call_verdict, cancelled, committed, detached, entered, followed_over, freed_all, has_lock, is_taken, killed, locks_behind, locks_without, logged_off, lowered, marked, numbered, replica_list, restarted, rolled_back}
+use Rattle.hall_model.specs.Step.{Found, Verdict, attached, call_verdict, cancelled, committed, detached, entered, followed_over, freed_all, has_lock, is_taken}
+use Rattle.hall_model.specs.Step.{killed, locks_behind, locks_without, logged_off, lowered, marked, numbered, replica_list, restarted, rolled_back}
 use Rattle.model_laws.proofs.ByCall.{OfEach, by_call}
 use Rattle.model_laws.proofs.OtherStatuses.{apart_by_status, status_in}
 use Rattle.model_laws.proofs.PartOrders.{held_for}

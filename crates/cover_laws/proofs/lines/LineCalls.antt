@@ -22,7 +22,8 @@ use Rattle.hall_model.specs.declared.command.Command.TheVariants as command
 use Rattle.script_lang.specs.declared.script_line.RawValue.{RawValue}
 use Rattle.script_lang.specs.declared.script_line.ScriptLine.{ScriptLine}
 use Rattle.script_lang.specs.declared.script_line.ScriptLine.TheVariants as line
-use Rattle.script_runner.specs.Lines.{Calls, Changes, Declines, Meaning, Shows, Silent, and_next, asking, collected, collecting, effect_of, key_in, key_with, meaning, number_in, of_session, registered, registering, requesting, text_in, then_deed, unless_refused, with_requested}
+use Rattle.script_runner.specs.Lines.{Calls, Changes, Declines, Meaning, Shows, Silent, and_next, asking, collected, collecting, effect_of, key_in, key_with}
+use Rattle.script_runner.specs.Lines.{meaning, number_in, of_session, registered, registering, requesting, text_in, then_deed, unless_refused, with_requested}
 use Rattle.script_runner.specs.Sides.{container_of, parts_of, side_of, variables_of, with_side}
 use Rattle.script_runner.specs.World.{setting}
 use Rattle.script_runner.specs.declared.monitor.Monitor.{Monitor}

@@ -18,7 +18,8 @@ use Rattle.lock_laws.proofs.Grants.{unless_barred-Ok, unless_full-Ok}
 use Rattle.lock_entry.proofs.lemmas.Naming.{same_name-same, same_owner-sym}
 use Rattle.coverage.specs.Lacks.{without}
 use Rattle.coverage.specs.Locks.{is_exclusive}
-use Rattle.cover_laws.proofs.needed.LocksNeeded.{AreExclusive, AskingAdds, AskingLeaves, ConvertingLeaves, FreeingLeaves, HandingLeaves, Holds, OthersFreeingLeaves, OwnerFreeingLeaves, often, update_asked}
+use Rattle.cover_laws.proofs.needed.LocksNeeded.{AreExclusive, AskingAdds, AskingLeaves, ConvertingLeaves, FreeingLeaves, HandingLeaves, Holds}
+use Rattle.cover_laws.proofs.needed.LocksNeeded.{OthersFreeingLeaves, OwnerFreeingLeaves, often, update_asked}
 use Rattle.cover_laws.proofs.locks.ConvertedLocks.{count-converted, exclusive-firm, passed-Ok}
 use Rattle.cover_laws.proofs.locks.LockCounts.{count-filter, count-freed_all, count-granted, count-handed}
 use Rattle.cover_laws.proofs.locks.OftenAsked.{often-append, often-lenient, often-without, times-other, times-update}

@@ -1,6 +1,8 @@
 -- All that the last proof rests on.
 use Rattle.cover_laws.proofs.needed.CoverageNeeded.{ReadsAreCovered, EffectsAreCovered, FreesArePlain, ReadsGuard, HeldIsExclusive, HeldIsEven}
-use Rattle.cover_laws.proofs.needed.HallNeeded.{RowsStay, ReadsTell, FirstPartsWait, SecondPartsFollow, PastStays, OpenStays, CommitsRecord, WellStays, FirstPartsStand, SecondPartsStand, UnitsStayOpen, EndsAreSeen, RepliesFit, LogsAreSeen, OthersLeaveOn, LogonsBegin}
+use Rattle.cover_laws.proofs.needed.HallNeeded.{RowsStay, ReadsTell, FirstPartsWait, SecondPartsFollow, PastStays, OpenStays, CommitsRecord, WellStays}
+use Rattle.cover_laws.proofs.needed.HallNeeded.{FirstPartsStand, SecondPartsStand, UnitsStayOpen, EndsAreSeen, RepliesFit, LogsAreSeen, OthersLeaveOn}
+use Rattle.cover_laws.proofs.needed.HallNeeded.{LogonsBegin}
 use Rattle.cover_laws.proofs.needed.HoldingNeeded.{OwnCallsHold, OtherCallsHold}
 use Rattle.cover_laws.proofs.needed.LinesNeeded.{PlacesGoOn, FirstPlaces, ReadsAreLines, CommitsAreLines}
 use Rattle.cover_laws.proofs.needed.LocksNeeded.{HeldCovers, HandingCovers, OneCovers}

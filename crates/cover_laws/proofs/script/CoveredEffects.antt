@@ -18,7 +18,8 @@ use Rattle.coverage.specs.declared.lack.Lack.TheVariants as lack
 use Rattle.coverage.specs.declared.lack.Want.TheVariants as want
 use Rattle.coverage.specs.declared.lack.Wish.{Wish}
 use Rattle.coverage.specs.Faults.{is_wrong, is_wrong_key, is_wrong_number, is_wrong_text}
-use Rattle.coverage.specs.Lacks.{Judged, Numbered, Standing, after_line, anywhere, effect_wish, fate_of, finding, fresh, is_guarded, is_kept, is_met, is_of, judged, lack_in, lacks, on_table, where_dollar}
+use Rattle.coverage.specs.Lacks.{Judged, Numbered, Standing, after_line, anywhere, effect_wish, fate_of, finding, fresh, is_guarded, is_kept, is_met, is_of}
+use Rattle.coverage.specs.Lacks.{judged, lack_in, lacks, on_table, where_dollar}
 use Rattle.coverage.specs.Locks.{covered, holds_dollar}
 use Rattle.cover_laws.proofs.needed.CoverageNeeded.{EffectsAreCovered, RowEffect, effect_at, stand}
 use Rattle.cover_laws.proofs.script.Findings.{is_met_there, is_plain, is_right_key, none_found}

@@ -20,7 +20,8 @@ use Rattle.hall_model.specs.Calls.{call_of}
 use Rattle.hall_model.specs.History.{judged}
 use Rattle.hall_model.specs.Numbers.{drawn, raised_to}
 use Rattle.hall_model.specs.Recall.{Made, recalled, state_after}
-use Rattle.hall_model.specs.Sessions.{begun, bereft, bereft_if, is_called, loses, session_at, unit_key, with_draw, with_fresh_unit, with_mark, with_next_unit, with_session, without_draws, without_session}
+use Rattle.hall_model.specs.Sessions.{begun, bereft, bereft_if, is_called, loses, session_at, unit_key, with_draw, with_fresh_unit, with_mark, with_next_unit}
+use Rattle.hall_model.specs.Sessions.{with_session, without_draws, without_session}
 use Rattle.hall_model.specs.State.{State}
 use Rattle.hall_model.specs.Step.{Found, has_lock, is_taken}
 use Rattle.hall_model.specs.declared.command.Session.{Session}

@@ -19,7 +19,7 @@ pub none_is : {A : Type 0} (x : A) → None ≡ some x → ⊥
 none_is x e = cc
 
 module _ {R S : Type 0} (g : Grammar R S) where
-  leads-push : (s : S) (rs : List R) (t : S) (r : R) → Leads g s rs t → g.is_record r → g.is_legal t r → Leads g s (rs ++ r ∷ []) (g.after t r)
+  pub leads-push : (s : S) (rs : List R) (t : S) (r : R) → Leads g s rs t → g.is_record r → g.is_legal t r → Leads g s (rs ++ r ∷ []) (g.after t r)
   leads-push s [] t r leads is legal = (is, subst (λ (n : S). g.is_legal n r) (sym leads) legal, ap (λ (n : S). g.after n r) leads)
   leads-push s (q ∷ rs) t r leads is legal = (leads.0, leads.1, leads-push (g.after s q) rs t r leads.2 is legal)
 
@@ -97,7 +97,7 @@ module _ {R S : Type 0} (g : Grammar R S) where
         (sym (unrolled r rs (b ∷ x)) ∙ e ∙ unrolled q qs (h ∷ y)) in
         same_log rs qs (g.after s r) t u b h x y shut_b shut_h same.1 leads_t.2 (subst (λ (k : R). Leads g (g.after s k) qs u) (sym same.0) leads_u.2)
 
-    shut_once : (bytes front back : List ℕ) (s t : S) → IsFront g front s → IsShut front bytes → IsFront g back t → IsShut back bytes → s ≡ t
+    pub shut_once : (bytes front back : List ℕ) (s t : S) → IsFront g front s → IsShut front bytes → IsFront g back t → IsShut back bytes → s ≡ t
     shut_once bytes front back s t f a h b =
         same_log f.records h.records g.first s t a.byte b.byte a.rest b.rest a.closed b.closed
         (sym (behind_name front (a.byte ∷ a.rest) bytes s a.whole f) ∙ behind_name back (b.byte ∷ b.rest) bytes t b.whole h) f.leads h.leads
@@ -135,7 +135,7 @@ module _ {R S : Type 0} (g : Grammar R S) where
         (sym (unrolled r rs x) ∙ e ∙ unrolled q qs y) in
         same_break rs qs (g.after s r) t u x y same.1 leads_t.2 (subst (λ (k : R). Leads g (g.after s k) qs u) (sym same.0) leads_u.2) bad_t bad_u
 
-    shut_unbroken : (bytes front : List ℕ) (s : S) (at : ℕ) → IsFront g front s → IsShut front bytes → BreaksAt g bytes at → ⊥
+    pub shut_unbroken : (bytes front : List ℕ) (s : S) (at : ℕ) → IsFront g front s → IsShut front bytes → BreaksAt g bytes at → ⊥
     shut_unbroken bytes front s at f shut b =
         closed_clash f.records b.is_front.records g.first s b.state shut.byte shut.rest b.rest shut.closed
         (sym (behind_name front (shut.byte ∷ shut.rest) bytes s shut.whole f) ∙ behind_name b.front b.rest bytes b.state b.whole b.is_front)
@@ -148,7 +148,7 @@ module _ {R S : Type 0} (g : Grammar R S) where
       | inr b ↦ shut_unbroken bytes h.1.0 s at h.1.1 h.1.2 b
     ]
 
-    breaks_once : (bytes : List ℕ) (at here : ℕ) → BreaksAt g bytes at → BreaksAt g bytes here → at ≡ here
+    pub breaks_once : (bytes : List ℕ) (at here : ℕ) → BreaksAt g bytes at → BreaksAt g bytes here → at ≡ here
     breaks_once bytes at here a b =
         let rests = same_break a.is_front.records b.is_front.records g.first a.state b.state a.rest b.rest
         (sym (behind_name a.front a.rest bytes a.state a.whole a.is_front) ∙ behind_name b.front b.rest bytes b.state b.whole b.is_front)

@@ -5,11 +5,11 @@ use Rattle.gate_log.specs.Grammars.{Grammar, IsReader, IsBytes}
 use Rattle.gate_log.specs.Logs.{opened, IsLong, EndsBadly, IsBad, IsReadUpTo}
 use Rattle.gate_log.proofs.lemmas.Logs.{some_is, none_is, front-push, first_front}
 
-bytes-rest : (b : ℕ) (bytes : List ℕ) → IsBytes (b ∷ bytes) → IsBytes bytes
+pub bytes-rest : (b : ℕ) (bytes : List ℕ) → IsBytes (b ∷ bytes) → IsBytes bytes
 bytes-rest b bytes h i = h (suc i)
 
 -- the rest of bytes are bytes
-rest_fits : (front rest bytes : List ℕ) → bytes ≡ front ++ rest → IsBytes bytes → IsBytes rest
+pub rest_fits : (front rest bytes : List ℕ) → bytes ≡ front ++ rest → IsBytes bytes → IsBytes rest
 rest_fits [] rest bytes whole fits = subst IsBytes whole fits
 rest_fits (b ∷ front) rest bytes whole fits = rest_fits front rest (front ++ rest) refl (bytes-rest b (front ++ rest) (subst IsBytes whole fits))
 

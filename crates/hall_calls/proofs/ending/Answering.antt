@@ -19,7 +19,8 @@ use Rattle.hall_model.specs.declared.command.Reply.TheVariants as reply
 use Rattle.hall_calls.specs.Serving.{Follows, IsAnswered, Serves, with_calls}
 use Rattle.hall_calls.specs.View.{View}
 use Rattle.hall_calls.proofs.HistoryRoom.{has_room}
-use Rattle.hall_calls.proofs.lemmas.WithHistory.{file_cause, file_kept, not_barred, refused_file, refused_room, refused_store, refused_telling, same_as_filed, same_keeper, shut_plain, store_caused, store_kept, store_told, store_within}
+use Rattle.hall_calls.proofs.lemmas.WithHistory.{file_cause, file_kept, not_barred, refused_file, refused_room, refused_store, refused_telling, same_as_filed}
+use Rattle.hall_calls.proofs.lemmas.WithHistory.{same_keeper, shut_plain, store_caused, store_kept, store_told, store_within}
 use Rattle.hall_calls.proofs.replica.EachCall.{any_link, plain_link, refused_over}
 use Rattle.hall_calls.proofs.replica.ToldLists.{good_replica}
 use Rattle.hall_calls.proofs.lemmas.GoodFiles.{file_sound, others_sound, refused_sound, store_sound}

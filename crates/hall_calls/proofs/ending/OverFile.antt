@@ -20,7 +20,8 @@ use Rattle.ledger_steps.specs.declared.step.Outcome.{Outcome}
 use Rattle.ledger_steps.specs.declared.step.Outcome.TheVariants as outcome
 use Rattle.update_records.specs.Ledger.{Ledger}
 use Rattle.hall_calls.specs.Written.{OnAnswer, written_condition, written_failure, written_reply}
-use Rattle.hall_calls.specs.Filing.{AllRecover, AreWaiting, ChangesLevels, FilesAs, FreesList, HasFileCause, HasOpenLists, IsUnrefused, KeepsFile, KeepsUnits, MayFile, RecoversFrom, StandsWritten, lists_ended}
+use Rattle.hall_calls.specs.Filing.{AllRecover, AreWaiting, ChangesLevels, FilesAs, FreesList, HasFileCause, HasOpenLists, IsUnrefused, KeepsFile, KeepsUnits}
+use Rattle.hall_calls.specs.Filing.{MayFile, RecoversFrom, StandsWritten, lists_ended}
 use Rattle.ledger_steps.specs.Steps.{after_step}
 use Rattle.ledger_steps.specs.Views.{open_locks}
 use Rattle.ledger_steps.specs.declared.step.Step.{Step}
@@ -57,7 +58,7 @@ posted_file part unit (outcome.Refused index reason) n m h =
 -- ---- a file that is as it was
 
 pub same_file : {D : Type 0} (f : BackupView D) → IsSame f f
-same_file f = record { disk = refl; gate = refl; units = λ u. refl; failed = refl }
+same_file f = record { disk = refl; gate = refl; units = λ u. refl; compact = refl; failed = refl }
 
 pub refused_file : {D : Type 0} (old new : BackupView D) (r : Refusal) → IsSame old new → KeepsFile old new (reply.Refused r)
 refused_file old new refusal.StoreFault h = tt

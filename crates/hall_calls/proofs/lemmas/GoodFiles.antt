@@ -8,10 +8,8 @@ use Rattle.enq_base.specs.declared.condition.BackupBad.TheVariants as backup
 use Rattle.enq_base.specs.declared.owner.UnitKey.{UnitKey}
 use Rattle.enq_base.specs.declared.refusal.Refusal.{Refusal}
 use Rattle.enq_base.specs.declared.refusal.Refusal.TheVariants as refusal
-use Rattle.gate_log.proofs.lemmas.Logs.{stands_once, stands_unbroken}
-use Rattle.backup_file.proofs.lemmas.Records.{record_reader}
-use Rattle.backup_file.specs.File.{Stands, grammar}
-use Rattle.backup_file.specs.Reading.{record_at}
+use Rattle.backup_file.proofs.lemmas.Meaning.{both_once, both_unbroken}
+use Rattle.backup_file.specs.File.{Stands}
 use Rattle.backup_file.specs.declared.handed.Handed.{Handed}
 use Rattle.enq_server.specs.Faults.{IsOpenFault}
 use Rattle.enq_server.specs.Recovery.{Agrees, IsFirstDifference, IsMissing, entries_of, joined}
@@ -52,10 +50,10 @@ none_missing lists units unit at agree m =
 -- no place of it is bad
 pub no_bad_place : (bytes : List ℕ) (units : List UnitLocks) (lists : List Handed) (place : BackupBad) → Stands bytes lists → All (Agrees lists) units
     → IsSound (joined units) → IsOpenFault bytes units (opening.Bad place) → ⊥
-no_bad_place bytes units lists (backup.Bytes at) stands agree sound why = stands_unbroken grammar record_at record_reader bytes lists at stands why
+no_bad_place bytes units lists (backup.Bytes at) stands agree sound why = both_unbroken bytes lists at stands why
 no_bad_place bytes units lists (backup.Clash first second) stands agree sound why = why.2.unsound sound
 no_bad_place bytes units lists (backup.Missing unit at) stands agree sound why =
-    let one : why.0 ≡ lists = stands_once grammar record_at record_reader bytes why.0 lists why.1 stands in
+    let one : why.0 ≡ lists = both_once bytes why.0 lists why.1 stands in
     none_missing lists units unit at (recursion_from_All (Agrees lists) units agree) (subst (λ l. IsMissing l units unit at) one why.2)
 
 -- why no lock server is made anew, where what is read of the file stands for lists with which the units agree

@@ -141,4 +141,5 @@ among_lists ledger lists h =
 pub recovered_lists : {D : Type 0} (reads : D → List ℕ) (may_leave : D → List ℕ → Type 0) (bytes : List ℕ) (ledger : Ledger) (file : BackupView D)
     → IsRecovered reads may_leave bytes (open_locks ledger) file
     → (lists : List Handed) × IsReady reads may_leave file lists × AreOpenLists ledger lists
-recovered_lists reads may_leave bytes ledger file h = (lists_among (open_locks ledger) h.lists, h.ready, among_lists ledger h.lists h.agree)
+recovered_lists reads may_leave bytes ledger file h =
+    (lists_among (open_locks ledger) h.freed.lists, h.freed.ready, among_lists ledger h.freed.lists h.freed.agree)

@@ -9,7 +9,9 @@ use Rattle.ledger_steps.specs.declared.step.Outcome.{Outcome}
 use Rattle.ledger_steps.specs.declared.step.Outcome.TheVariants as outcome
 use Rattle.hall_model.specs.Acts.{IsAct, IsTelling}
 use Rattle.hall_model.specs.Calls.{Call, call_of, restarts}
-use Rattle.hall_model.specs.Devices.{DeviceOutcome, Event, AllWell, Wanting, StoreFails, BackupFails, LinkFails, NotRemade, RemakeFault, MeetsWant, FindsBad, FindsBadStore, MayHappen, fault_told, found_by, is_file_failure, is_store_failure, may_want, LosesReplica, MayLose, uses_file, uses_store}
+use Rattle.hall_model.specs.Devices.{DeviceOutcome, Event, AllWell, Wanting, StoreFails, BackupFails, LinkFails, NotRemade, RemakeFault, MeetsWant, FindsBad}
+use Rattle.hall_model.specs.Devices.{FindsBadStore, MayHappen, fault_told, found_by, is_file_failure, is_store_failure, may_want, LosesReplica, MayLose}
+use Rattle.hall_model.specs.Devices.{uses_file, uses_store}
 use Rattle.hall_calls.specs.Filing.{HasFileCause}
 use Rattle.hall_model.specs.History.{IsGiven, Served, ends_in, is_row, is_unrecorded, judged, losing, served, step, takes_flight}
 use Rattle.hall_calls.specs.Leaving.{HasCounted, HasStoreCause}

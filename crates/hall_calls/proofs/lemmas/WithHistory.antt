@@ -15,7 +15,9 @@ use Rattle.keeper_api.specs.Keeping.{IsWithin}
 use Rattle.keeper_api.specs.Rows.{Rows}
 use Rattle.hall_model.specs.Acts.{Admits, IsAct, IsTelling}
 use Rattle.hall_calls.specs.Written.{OnFailure, locks_posted}
-use Rattle.hall_model.specs.Calls.{Call, post_of, LogsOn, OfSession, OfWorker, OfAdmin, Kills, FailsOver, Restarts, Attaches, Cancels, Resubmits, SessionCall, LogsOff, Asks, Frees, FreesAll, Converts, Draws, Reserves, Reads, Commits, RollsBack, Takes, Posts, Drops, call_of, restarts, session_touches_file, ships, touches_file, wants_server}
+use Rattle.hall_model.specs.Calls.{Call, post_of, LogsOn, OfSession, OfWorker, OfAdmin, Kills, FailsOver, Restarts, Attaches, Cancels, Resubmits, SessionCall}
+use Rattle.hall_model.specs.Calls.{LogsOff, Asks, Frees, FreesAll, Converts, Draws, Reserves, Reads, Commits, RollsBack, Takes, Posts, Drops, call_of, restarts}
+use Rattle.hall_model.specs.Calls.{session_touches_file, ships, touches_file, wants_server}
 use Rattle.hall_model.specs.Devices.{MayBeDone, all_well, reaches_store, session_reaches_store, session_uses_file, session_uses_store, uses_file, uses_store}
 use Rattle.hall_calls.specs.Filing.{DoesFile, HasFileCause, KeepsFile, MayFile}
 use Rattle.hall_model.specs.History.{IsGiven, Served, is_unrecorded, judged}

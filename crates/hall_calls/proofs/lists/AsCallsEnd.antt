@@ -36,7 +36,8 @@ use Rattle.hall_calls.specs.declared.units.Written.{Written}
 use Rattle.hall_calls.specs.declared.units.Written.TheVariants.{Answered, Failed}
 use Rattle.hall_calls.proofs.ending.OverFile.{AgreesBoth, answered_files, failed_before, same_file}
 use Rattle.hall_calls.proofs.lemmas.WaitingLists.{committed_known, ended_known, ended_waiting, kept_waiting, same_known}
-use Rattle.hall_calls.proofs.lists.BehindMarks.{again_same, committed_lists, ended_agree, ended_lists, ended_without, ends_first, ends_gone, ends_second, gone_same, gone_second_same, numbers_same, same_agree, same_lists, saved_locks, second_same, uncommitted_agree}
+use Rattle.hall_calls.proofs.lists.BehindMarks.{again_same, committed_lists, ended_agree, ended_lists, ended_without, ends_first, ends_gone, ends_second}
+use Rattle.hall_calls.proofs.lists.BehindMarks.{gone_same, gone_second_same, numbers_same, same_agree, same_lists, saved_locks, second_same, uncommitted_agree}
 use Rattle.ledger_steps.specs.declared.part.Part.TheVariants.{V1, V2}
 use Rattle.ledger_steps.specs.declared.part.Part.{Part}
 use Rattle.ledger_steps.specs.Parts.{is_first}

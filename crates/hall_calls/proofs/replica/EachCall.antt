@@ -7,7 +7,8 @@ use Rattle.enq_server.specs.Replica.{IsLater, KeepsOn, ReplicaView}
 use Rattle.keeper_api.specs.Rows.{Rows}
 use Rattle.lock_entry.specs.declared.entry.Entry.{Entry}
 use Rattle.hall_model.specs.Acts.{IsAct}
-use Rattle.hall_model.specs.Calls.{Call, LogsOn, OfSession, OfWorker, OfAdmin, Kills, FailsOver, Restarts, Attaches, Cancels, Resubmits, call_of, fails_over, renews_replica, restarts, talks, touches_file}
+use Rattle.hall_model.specs.Calls.{Call, LogsOn, OfSession, OfWorker, OfAdmin, Kills, FailsOver, Restarts, Attaches, Cancels, Resubmits, call_of, fails_over}
+use Rattle.hall_model.specs.Calls.{renews_replica, restarts, talks, touches_file}
 use Rattle.hall_model.specs.Devices.{AllWell, Wanting, StoreFails, BackupFails, LinkFails, NotRemade, RemakeFault, MeetsWant, FindsBad, FindsBadStore, MayHappen, fault_told, found_by, reaches_store}
 use Rattle.hall_model.specs.History.{Served, served}
 use Rattle.hall_calls.specs.Serving.{DoesStore, Follows, HasLinkCause, IsOver, LeavesFile, Serves, with_calls}

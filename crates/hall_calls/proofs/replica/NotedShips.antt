@@ -15,12 +15,15 @@ use Rattle.lock_entry.specs.declared.fault.AskFault.TheVariants as fault
 use Rattle.ledger_steps.specs.declared.step.Outcome.{Outcome}
 use Rattle.ledger_steps.specs.declared.step.Outcome.TheVariants as outcome
 use Rattle.update_records.specs.Marks.{status_of}
-use Rattle.hall_model.specs.Calls.{Call, LogsOn, OfSession, OfWorker, OfAdmin, Kills, FailsOver, Restarts, Attaches, Cancels, Resubmits, Takes, Posts, Drops, SessionCall, LogsOff, Asks, Frees, FreesAll, Converts, Draws, Reserves, Reads, Commits, RollsBack, ships}
+use Rattle.hall_model.specs.Calls.{Call, LogsOn, OfSession, OfWorker, OfAdmin, Kills, FailsOver, Restarts, Attaches, Cancels, Resubmits, Takes, Posts, Drops}
+use Rattle.hall_model.specs.Calls.{SessionCall, LogsOff, Asks, Frees, FreesAll, Converts, Draws, Reserves, Reads, Commits, RollsBack, ships}
 use Rattle.hall_model.specs.History.{is_unrecorded, judged}
 use Rattle.hall_model.specs.Orders.{order_for, worker_of}
 use Rattle.hall_model.specs.Sessions.{session_at}
 use Rattle.hall_model.specs.State.{State}
-use Rattle.hall_model.specs.Step.{Found, Verdict, Refuses, ask_refusal, called, call_verdict, cancelling, commit, converting, effects_in, granting, if_room, if_status, if_unclaimed, may_cancel, may_resubmit, own_verdict, passing, posted_reply, posting, recording, reopening, resubmitting, session_call, to_cancel, to_resubmit, trying_again, unavailable, unless_refused, with_room}
+use Rattle.hall_model.specs.Step.{Found, Verdict, Refuses, ask_refusal, called, call_verdict, cancelling, commit, converting, effects_in, granting, if_room}
+use Rattle.hall_model.specs.Step.{if_status, if_unclaimed, may_cancel, may_resubmit, own_verdict, passing, posted_reply, posting, recording, reopening}
+use Rattle.hall_model.specs.Step.{resubmitting, session_call, to_cancel, to_resubmit, trying_again, unavailable, unless_refused, with_room}
 use Rattle.hall_model.specs.declared.command.Reply.TheVariants as reply
 use Rattle.hall_model.specs.declared.command.Session.{Session}
 use Rattle.model_laws.proofs.ByCall.{by_room}

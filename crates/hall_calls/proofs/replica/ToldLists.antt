@@ -8,7 +8,8 @@ use Rattle.lock_entry.specs.Table.{IsTable}
 use Rattle.lock_entry.specs.declared.entry.Entry.{Entry}
 use Rattle.hall_model.specs.Acts.{IsAct}
 use Rattle.hall_model.specs.Calls.{Call, LogsOn, OfSession, OfWorker, OfAdmin, Kills, FailsOver, Restarts, Attaches, Cancels, Resubmits, call_of}
-use Rattle.hall_model.specs.Devices.{AllWell, Wanting, StoreFails, BackupFails, LinkFails, NotRemade, IsTold, MayRead, RemakeFault, MeetsWant, FindsBad, FindsBadStore, Reading, AsKnown, Shows, Reopens, Hands, fault_told, found_by}
+use Rattle.hall_model.specs.Devices.{AllWell, Wanting, StoreFails, BackupFails, LinkFails, NotRemade, IsTold, MayRead, RemakeFault, MeetsWant, FindsBad}
+use Rattle.hall_model.specs.Devices.{FindsBadStore, Reading, AsKnown, Shows, Reopens, Hands, fault_told, found_by}
 use Rattle.hall_model.specs.History.{Served, judged, served}
 use Rattle.hall_model.specs.State.{State}
 use Rattle.hall_model.specs.Step.{Found, is_sound, posted_reply}

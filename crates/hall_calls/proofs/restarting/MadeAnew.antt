@@ -25,7 +25,8 @@ use Rattle.record_laws.proofs.Status.{one_unit}
 use Rattle.update_records.specs.Ledger.{Ledger}
 use Rattle.hall_model.specs.Acts.{Admits, IsTelling}
 use Rattle.hall_model.specs.Calls.{OfAdmin, Restarts}
-use Rattle.hall_model.specs.Devices.{AllWell, AsKnown, BackupFails, FindsBad, FindsBadStore, LeavesTable, MayFind, MayRead, MeetsWant, NotRemade, Reading, RemakeFault, Reopens, StoreFails, Wanting, IsAsBefore, all_well, fault_told, found_by, is_doubt, only}
+use Rattle.hall_model.specs.Devices.{AllWell, AsKnown, BackupFails, FindsBad, FindsBadStore, LeavesTable, MayFind, MayRead, MeetsWant, NotRemade, Reading}
+use Rattle.hall_model.specs.Devices.{RemakeFault, Reopens, StoreFails, Wanting, IsAsBefore, all_well, fault_told, found_by, is_doubt, only}
 use Rattle.hall_calls.specs.Filing.{AllRecover, HasFileCause, HasOpenLists, RecoversFrom, UnlessTaken, UnlessUntaken}
 use Rattle.hall_model.specs.History.{doubted, had_lock, in_flight_after, judged, known_behind, read_anew, refused, stored_before_file, unfiled}
 use Rattle.hall_model.specs.Kept.{IsInFlight}
@@ -317,7 +318,8 @@ left_stands : (ledger : Ledger) (lists : List Handed) (fault : OpenFault) (old i
 left_stands ledger lists opening.Failed old image agree stood h =
     let less = h.lists lists stood in (left (open_locks ledger) less.gone lists, less.stands, left_agree ledger less.gone lists agree)
 left_stands ledger lists (opening.Bad place) old image agree stood h = (lists, h.states lists stood, agree)
-left_stands ledger lists opening.NoMemory old image agree stood h = (lists, h.states lists stood, agree)
+left_stands ledger lists opening.NoMemory old image agree stood h =
+    let less = h.lists lists stood in (left (open_locks ledger) less.gone lists, less.stands, left_agree ledger less.gone lists agree)
 
 module _ {D : Type 0} (tells : Bool) (reads : D → List ℕ) (may_leave : D → List ℕ → Type 0) (faults : D → ℕ) where
   module _ (k : Condition) (stored : Ledger) (in_flight : Option Ledger) (found read : Option Bool) (right : IsReadRight read found stored in_flight)

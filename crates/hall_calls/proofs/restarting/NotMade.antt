@@ -18,7 +18,8 @@ use Rattle.hall_model.specs.Devices.{IsAsBefore, MayFind, is_doubt}
 use Rattle.hall_calls.specs.Filing.{AllRecover, HasFileCause}
 use Rattle.hall_model.specs.History.{known_behind}
 use Rattle.hall_model.specs.Kept.{IsInFlight}
-use Rattle.hall_calls.specs.Remaking.{IsLeftReady, IsReadFault, IsUnread, LeavesKnown, LeavesRemade, OnNotRemade, OnRefusedFirst, OnRemade, flight_over, remade_condition, remade_reply, remade_state, remade_taken}
+use Rattle.hall_calls.specs.Remaking.{IsLeftReady, IsReadFault, IsUnread, LeavesKnown, LeavesRemade, OnNotRemade, OnRefusedFirst, OnRemade, flight_over}
+use Rattle.hall_calls.specs.Remaking.{remade_condition, remade_reply, remade_state, remade_taken}
 use Rattle.hall_calls.specs.Serving.{DoesStore}
 use Rattle.hall_model.specs.State.{State, is_up}
 use Rattle.hall_model.specs.Unsound.{is_unsound_file}

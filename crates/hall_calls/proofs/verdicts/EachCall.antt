@@ -23,12 +23,14 @@ use Rattle.hall_model.specs.declared.command.Reply.{Reply}
 use Rattle.hall_model.specs.declared.command.Reply.TheVariants as reply
 use Rattle.hall_model.specs.declared.command.Session.{Session}
 use Rattle.hall_model.specs.Acts.{Admits, IsAct}
-use Rattle.hall_model.specs.Calls.{Call, LogsOn, OfSession, OfWorker, OfAdmin, Kills, FailsOver, Restarts, Attaches, Cancels, Resubmits, SessionCall, LogsOff, Asks, Frees, FreesAll, Converts, RollsBack, call_of, only_reads, writes_store_first}
+use Rattle.hall_model.specs.Calls.{Call, LogsOn, OfSession, OfWorker, OfAdmin, Kills, FailsOver, Restarts, Attaches, Cancels, Resubmits, SessionCall, LogsOff}
+use Rattle.hall_model.specs.Calls.{Asks, Frees, FreesAll, Converts, RollsBack, call_of, only_reads, writes_store_first}
 use Rattle.hall_model.specs.Devices.{BackupFails, MayBeDone, StoreFails, Wanting, all_well, may_want, only, uses_file, uses_store}
 use Rattle.hall_model.specs.History.{doubted, in_flight_after, judged, refused, stored_before_file, unfiled, without_stock}
 use Rattle.hall_model.specs.Sessions.{begun, session_at, without_session, with_session, with_fresh_unit, pair_of}
 use Rattle.hall_model.specs.State.{State}
-use Rattle.hall_model.specs.Step.{Found, Verdict, Refuses, Leaves, answer_of, ask_refusal, call_verdict, called, converting, entered, fault_refusal, found_in, granting, leaves, logon, own_verdict, session_call, unavailable, unless_refused, verdict}
+use Rattle.hall_model.specs.Step.{Found, Verdict, Refuses, Leaves, answer_of, ask_refusal, call_verdict, called, converting, entered, fault_refusal, found_in}
+use Rattle.hall_model.specs.Step.{granting, leaves, logon, own_verdict, session_call, unavailable, unless_refused, verdict}
 
 -- a call that nothing bars comes to what it asks for
 pub admitted : (found : Found) (s : State) (c : Command) → Admits s c → call_verdict found s (call_of c) ≡ own_verdict found s (call_of c)

@@ -59,7 +59,9 @@ use Rattle.hall_model.specs.Orders.{first_unclaimed, is_claimed, order_for, orde
 use Rattle.hall_model.specs.Sessions.{is_called, owners_of, session_at, unit_key, with_next_unit, with_session, without_draws}
 use Rattle.hall_model.specs.Numbers.{stocked, with_numbers}
 use Rattle.hall_model.specs.State.{State}
-use Rattle.hall_model.specs.Step.{Found, Verdict, Refuses, Leaves, ask_refusal, call_verdict, called, cancel, cancelled, cancelling, commit, committed, effects_in, found_in, leaves, locks_behind, locks_without, marked, numbered, own_verdict, passing, posted_reply, posting, reopened, reopening, reposted, resubmit, resubmitting, row_in, to_cancel, to_resubmit, unit_of, with_room}
+use Rattle.hall_model.specs.Step.{Found, Verdict, Refuses, Leaves, ask_refusal, call_verdict, called, cancel, cancelled, cancelling, commit, committed}
+use Rattle.hall_model.specs.Step.{effects_in, found_in, leaves, locks_behind, locks_without, marked, numbered, own_verdict, passing, posted_reply, posting}
+use Rattle.hall_model.specs.Step.{reopened, reopening, reposted, resubmit, resubmitting, row_in, to_cancel, to_resubmit, unit_of, with_room}
 use Rattle.hall_calls.proofs.verdicts.EachCall.{admitted, at_state, fails, fails_filing, found_at, is_done, is_wanting, leaves_as, refuses}
 use Rattle.model_laws.proofs.FoundSessions.{found_in as found_all_in}
 use Rattle.model_laws.proofs.HandedLocks.{all_held, handed_good}

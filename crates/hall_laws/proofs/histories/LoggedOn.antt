@@ -15,7 +15,8 @@ use Rattle.hall_model.specs.declared.command.Session.{Session}
 use Rattle.hall_model.specs.Calls.{Call, LogsOn, OfSession, OfWorker, OfAdmin, LogsOff, call_of}
 use Rattle.hall_model.specs.Devices.{DeviceOutcome}
 use Rattle.hall_model.specs.History.{IsStep, Served, had_lock, judged, served, step, takes_flight, without_stock}
-use Rattle.hall_model.specs.Sessions.{begun, bereft, bereft_if, is_called, loses, session_at, with_draw, with_fresh_unit, with_mark, with_marks, with_next_unit, with_session, without_draws, without_session}
+use Rattle.hall_model.specs.Sessions.{begun, bereft, bereft_if, is_called, loses, session_at, with_draw, with_fresh_unit, with_mark, with_marks, with_next_unit}
+use Rattle.hall_model.specs.Sessions.{with_session, without_draws, without_session}
 use Rattle.hall_model.specs.Numbers.{drawn, raised_to}
 use Rattle.ledger_steps.specs.Drawn.{handed_out, num_of}
 use Rattle.hall_model.specs.State.{State}

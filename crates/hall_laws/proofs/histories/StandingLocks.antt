@@ -38,7 +38,8 @@ use Rattle.update_records.specs.declared.records.MarkKind.TheVariants as mark
 use Rattle.hall_model.specs.declared.command.Reply.{Reply}
 use Rattle.hall_model.specs.declared.command.Reply.TheVariants as reply
 use Rattle.hall_model.specs.declared.command.Session.{Session}
-use Rattle.hall_model.specs.Calls.{Call, LogsOn, OfSession, OfWorker, OfAdmin, Kills, FailsOver, Restarts, Attaches, Cancels, Resubmits, call_of, is_of_server, restarts, wants_server, LogsOff, Asks, Frees, FreesAll, Converts, Draws, Reserves, Reads, Commits, RollsBack}
+use Rattle.hall_model.specs.Calls.{Call, LogsOn, OfSession, OfWorker, OfAdmin, Kills, FailsOver, Restarts, Attaches, Cancels, Resubmits, call_of, is_of_server}
+use Rattle.hall_model.specs.Calls.{restarts, wants_server, LogsOff, Asks, Frees, FreesAll, Converts, Draws, Reserves, Reads, Commits, RollsBack}
 use Rattle.hall_model.specs.Devices.{AllWell, Wanting, StoreFails, BackupFails, LinkFails, NotRemade, MayHappen, found_by}
 use Rattle.hall_model.specs.History.{Served, ends_in, judged, served, takes_flight, without_stock}
 use Rattle.hall_model.specs.Kept.{IsSteady, OutsideDoubt}

@@ -34,7 +34,8 @@ use Rattle.ledger_steps.specs.Steps.{waiting_for}
 use Rattle.hall_model.specs.declared.command.Command.{Command}
 use Rattle.hall_model.specs.declared.command.PastEntry.{PastEntry}
 use Rattle.hall_model.specs.declared.command.Session.{Session}
-use Rattle.hall_model.specs.Devices.{DeviceOutcome, Event, AllWell, Wanting, StoreFails, BackupFails, LinkFails, NotRemade, IsAllowed, IsTold, MayRead, found_by, Reading, AsKnown, Shows, Reopens, Hands}
+use Rattle.hall_model.specs.Devices.{DeviceOutcome, Event, AllWell, Wanting, StoreFails, BackupFails, LinkFails, NotRemade, IsAllowed, IsTold, MayRead}
+use Rattle.hall_model.specs.Devices.{found_by, Reading, AsKnown, Shows, Reopens, Hands}
 use Rattle.hall_model.specs.History.{doubted, ends_in, had_lock, in_flight_after, judged, known_behind, read_anew, served, stored_before_file, unfiled, without_stock}
 use Rattle.number_ranges.specs.Intervals.{block_level, is_buffered, with_level}
 use Rattle.number_ranges.specs.declared.interval.Interval.{Interval}
@@ -44,15 +45,19 @@ use Rattle.ledger_steps.specs.Drawn.{AreDrawnRight, handed_out, num_of, passed, 
 use Rattle.ledger_steps.specs.Levels.{present, range_at}
 use Rattle.ledger_steps.specs.declared.range.NumberRange.{NumberRange}
 use Rattle.hall_model.specs.Numbers.{drawn, next_number, raised_to, stocked}
-use Rattle.hall_model.specs.Kept.{draws_in, AreOrders, HasFew, HasGoodLocks, HasItsUser, HasStateInFlight, HasOpenUnits, HasSoundLocks, IsAhead, IsKnown, IsKnownRight, IsOwned, IsSteady, IsWaiting, IsYoung, MayHold, OfLock, OfStored, OutsideDoubt, may_hold}
+use Rattle.hall_model.specs.Kept.{draws_in, AreOrders, HasFew, HasGoodLocks, HasItsUser, HasStateInFlight, HasOpenUnits, HasSoundLocks, IsAhead, IsKnown}
+use Rattle.hall_model.specs.Kept.{IsKnownRight, IsOwned, IsSteady, IsWaiting, IsYoung, MayHold, OfLock, OfStored, OutsideDoubt, may_hold}
 use Rattle.hall_model.specs.OpenUnits.{OfInFlight}
 use Rattle.hall_model.specs.Orders.{first_unclaimed, is_claimed, order_for, order_of, without_order}
-use Rattle.hall_model.specs.Sessions.{begun, with_marks, without_marks, is_called, owners_of, pair_of, session_at, unit_key, with_draw, with_fresh_unit, with_next_unit, with_session, without_draws, without_session}
+use Rattle.hall_model.specs.Sessions.{begun, with_marks, without_marks, is_called, owners_of, pair_of, session_at, unit_key, with_draw, with_fresh_unit}
+use Rattle.hall_model.specs.Sessions.{with_next_unit, with_session, without_draws, without_session}
 use Rattle.hall_model.specs.Calls.{Call, Commits, OfAdmin, OfSession, Restarts, call_of}
 use Rattle.hall_model.specs.State.{State, is_honest, table_for}
 use Rattle.hall_model.specs.Stocks.{IsStockIn, MayCall}
-use Rattle.hall_model.specs.Step.{Found, Verdict, call_verdict, cancelled, committed, detached, entered, followed_over, has_lock, is_taken, killed, locks_behind, locks_without, marked, numbered, reopened, reposted, restarted, stored_anew, taken, unit_of}
-use Rattle.hall_laws.proofs.keeping.SessionsAlike.{AreAlike, HaveOneStatus, ahead_alike, alike_all, alike_self, alike_with, count_alike, marked_few, marked_steady, numbered_alike, orders_alike, owned_alike, with_other_marks, with_others, young_alike}
+use Rattle.hall_model.specs.Step.{Found, Verdict, call_verdict, cancelled, committed, detached, entered, followed_over, has_lock, is_taken, killed}
+use Rattle.hall_model.specs.Step.{locks_behind, locks_without, marked, numbered, reopened, reposted, restarted, stored_anew, taken, unit_of}
+use Rattle.hall_laws.proofs.keeping.SessionsAlike.{AreAlike, HaveOneStatus, ahead_alike, alike_all, alike_self, alike_with, count_alike, marked_few}
+use Rattle.hall_laws.proofs.keeping.SessionsAlike.{marked_steady, numbered_alike, orders_alike, owned_alike, with_other_marks, with_others, young_alike}
 use Rattle.model_laws.proofs.HandedLocks.{handed_good}
 use Rattle.lock_entry.proofs.lemmas.Naming.{same_owner-same}
 use Rattle.model_laws.proofs.ByCall.{CanDraw, IsHandedOver, OfEach, by_anew, by_doubt, by_filing, by_made, by_restart, by_stock, in_flight_stays}
@@ -60,7 +65,9 @@ use Rattle.model_laws.proofs.Cancels.{CanBeCancelled, unclaimed}
 use Rattle.hall_laws.proofs.keeping.WorkerOrders.{found_all, orders_marked, orders_posted, orders_recorded, orders_with, orders_without, outside_more}
 use Rattle.model_laws.proofs.PartOrders.{held_for}
 use Rattle.model_laws.proofs.BlockLevels.{AreRightIn}
-use Rattle.hall_laws.proofs.keeping.DrawnNumbers.{CommitsNone, drawn_back, drawn_buffered, drawn_entered, drawn_left, drawn_marked, drawn_numbered, drawn_plain, drawn_raised, drawn_recorded, drawn_stocked, marks_marked, marks_recorded, named_filter, named_push, named_with, post_commits_none}
+use Rattle.hall_laws.proofs.keeping.DrawnNumbers.{CommitsNone, drawn_back, drawn_buffered, drawn_entered, drawn_left, drawn_marked, drawn_numbered, drawn_plain}
+use Rattle.hall_laws.proofs.keeping.DrawnNumbers.{drawn_raised, drawn_recorded, drawn_stocked, marks_marked, marks_recorded, named_filter, named_push}
+use Rattle.hall_laws.proofs.keeping.DrawnNumbers.{named_with, post_commits_none}
 use Rattle.hall_laws.proofs.keeping.Unchanged.{list_told, may_find, reads_none}
 use Rattle.model_laws.proofs.FoundSessions.{found_name}
 use Rattle.hall_laws.proofs.keeping.UnitsToCome.{fresh_committed, fresh_entered, fresh_left, fresh_marked, fresh_next, number_below, open_unheard}

@@ -18,7 +18,8 @@ use Rattle.hall_model.specs.declared.command.PastEntry.{PastEntry}
 use Rattle.hall_model.specs.declared.command.Reply.{Reply}
 use Rattle.hall_model.specs.declared.command.Session.{Session}
 use Rattle.hall_model.specs.Acts.{IsAct}
-use Rattle.hall_model.specs.Calls.{Call, LogsOn, OfSession, OfWorker, OfAdmin, Kills, FailsOver, Restarts, Attaches, Cancels, Resubmits, Takes, Posts, Drops, call_of, only_reads, restarts, LogsOff, Asks, Frees, FreesAll, Converts, Draws, Reserves, Reads, Commits, RollsBack}
+use Rattle.hall_model.specs.Calls.{Call, LogsOn, OfSession, OfWorker, OfAdmin, Kills, FailsOver, Restarts, Attaches, Cancels, Resubmits, Takes, Posts, Drops}
+use Rattle.hall_model.specs.Calls.{call_of, only_reads, restarts, LogsOff, Asks, Frees, FreesAll, Converts, Draws, Reserves, Reads, Commits, RollsBack}
 use Rattle.hall_model.specs.Devices.{DeviceOutcome, Event, AllWell, Wanting, StoreFails, BackupFails, LinkFails, NotRemade, IsAllowed, IsTold, MayHappen, MayRead, Reading, found_by}
 use Rattle.hall_model.specs.History.{caller_behind, doubted, ends_in, had_lock, in_flight_after, judged, read_anew, served, step, stored_before_file, takes_flight, unfiled, with_entry, without_stock}
 use Rattle.hall_model.specs.Kept.{AreSameButCaller, CanStand, HasFew, HasGoodLocks, HasOpenUnits, HasSoundLocks, HasStateInFlight, IsKept, IsMovedOn, MayHaveMoved}

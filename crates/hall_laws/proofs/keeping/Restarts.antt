@@ -11,7 +11,8 @@ use Rattle.ledger_steps.specs.Drawn.{AreDrawnRight}
 use Rattle.ledger_steps.specs.declared.range.NumberRange.{NumberRange}
 use Rattle.update_records.specs.Business.{numbers_of}
 use Rattle.update_records.specs.Ledger.{Ledger}
-use Rattle.hall_model.specs.Kept.{AreNumbered, AreSameButCaller, HasFew, HasGoodLocks, HasItsUser, HasStateInFlight, HasOpenUnits, HaveMarks, HaveOwnNames, IsSteady, MayHaveMoved, draws_in, IsAhead, IsOwned, IsUnheard, IsUserOf, IsYoung, OfLock, OfStored, is_of_session}
+use Rattle.hall_model.specs.Kept.{AreNumbered, AreSameButCaller, HasFew, HasGoodLocks, HasItsUser, HasStateInFlight, HasOpenUnits, HaveMarks, HaveOwnNames}
+use Rattle.hall_model.specs.Kept.{IsSteady, MayHaveMoved, draws_in, IsAhead, IsOwned, IsUnheard, IsUserOf, IsYoung, OfLock, OfStored, is_of_session}
 use Rattle.hall_model.specs.OpenUnits.{OfInFlight, open_entries}
 use Rattle.hall_model.specs.Sessions.{bereft, bereft_if, is_called, is_caller, loses}
 use Rattle.hall_model.specs.State.{State, is_honest}

@@ -11,7 +11,8 @@ use Rattle.draw_laws.proofs.Counting.{bit, count_cons}
 use Rattle.update_records.specs.Ledger.{Ledger, Levels}
 use Rattle.update_records.specs.Marks.{status_of}
 use Rattle.update_records.specs.declared.records.Mark.{Mark}
-use Rattle.hall_model.specs.Kept.{draws_in, AreNumbered, AreOrders, AreSameButCaller, HasFew, IsSteady, MayHaveMoved, HasItsUser, IsAhead, IsOwned, IsUserOf, IsWaiting, IsYoung, MayHold, OfLock, OfStored, is_of_session, may_hold}
+use Rattle.hall_model.specs.Kept.{draws_in, AreNumbered, AreOrders, AreSameButCaller, HasFew, IsSteady, MayHaveMoved, HasItsUser, IsAhead, IsOwned, IsUserOf}
+use Rattle.hall_model.specs.Kept.{IsWaiting, IsYoung, MayHold, OfLock, OfStored, is_of_session, may_hold}
 use Rattle.hall_model.specs.Sessions.{is_called, is_caller, with_mark, with_marks, with_session}
 use Rattle.hall_model.specs.State.{State, is_honest}
 use Rattle.ledger_steps.specs.Drawn.{AreDrawnRight}

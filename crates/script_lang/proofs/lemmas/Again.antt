@@ -18,7 +18,8 @@ use Rattle.mode_rules.specs.Modes.{mode_text}
 use Rattle.mode_rules.specs.declared.Mode.{Mode}
 use Rattle.mode_rules.specs.declared.Mode.TheVariants as mode
 use Rattle.script_lang.specs.Parts.{is_raw, is_rest, is_nr, AreValues, IsName, IsPart, IsRaw, IsValue, IsWorker}
-use Rattle.script_lang.specs.Reading.{act_line, admin_line, effect_line, key_and, line_of, number_line, object_and_values, request_of, row_line, session_line, update_line, value_of, values_in, verb_line, with_values, worker_line, worker_of}
+use Rattle.script_lang.specs.Reading.{act_line, admin_line, effect_line, key_and, line_of, number_line, object_and_values, request_of, row_line, session_line}
+use Rattle.script_lang.specs.Reading.{update_line, value_of, values_in, verb_line, with_values, worker_line, worker_of}
 use Rattle.script_lang.specs.Spelling.{IsLine, Spells, part_text, request_text, scope_text, value_text, values_text, worker_text}
 use Rattle.script_lang.specs.Words.{change_of, mode_of, monitor_line, order_line, plain_line, scope_of, server_line, unit_line, verb_of}
 use Rattle.script_lang.specs.declared.script_line.RawValue.{RawValue}

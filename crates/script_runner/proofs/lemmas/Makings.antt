@@ -13,7 +13,8 @@ use Rattle.hall_model.specs.declared.command.Command.TheVariants as command
 use Rattle.mode_rules.specs.declared.Mode.TheVariants as mode
 use Rattle.script_lang.specs.declared.script_line.ScriptLine.{ScriptLine}
 use Rattle.script_lang.specs.declared.script_line.ScriptLine.TheVariants as line
-use Rattle.script_runner.specs.Lines.{Meaning, Silent, Shows, Calls, Declines, Changes, asking, collected, collecting, effect_with, effecting, key_with, meaning, of_session, registered, registering, requesting, unless_refused}
+use Rattle.script_runner.specs.Lines.{Meaning, Silent, Shows, Calls, Declines, Changes, asking, collected, collecting, effect_with, effecting, key_with}
+use Rattle.script_runner.specs.Lines.{meaning, of_session, registered, registering, requesting, unless_refused}
 use Rattle.script_runner.specs.Sides.{side_of, variables_of}
 use Rattle.script_runner.specs.declared.effects.Verb.{Verb}
 use Rattle.script_runner.specs.declared.effects.Verb.TheVariants as verb

@@ -1,5 +1,6 @@
 -- Lemmas on a key's place among sorted entries.
-use Rattle.std.proofs.Common.{Result, Ok, Err, IsOk, is_ok, if◌then◌else◌, ◌≡◌, ◌⊎◌, ◌&&◌, IsTrue, inl, inr, ℕ, suc, zero, ◌<◌, Bool, true, false, cond, not, List, [], ◌∷◌, ◌++◌, map, length, take, drop, get_or, set, Option, Some, None, refl, sym, ap, ◌∙◌, arith}
+use Rattle.std.proofs.Common.{Result, Ok, Err, IsOk, is_ok, if◌then◌else◌, ◌≡◌, ◌⊎◌, ◌&&◌, IsTrue, inl, inr, ℕ, suc, zero, ◌<◌, Bool, true, false, cond, not}
+use Rattle.std.proofs.Common.{List, [], ◌∷◌, ◌++◌, map, length, take, drop, get_or, set, Option, Some, None, refl, sym, ap, ◌∙◌, arith}
 use Rattle.std.specs.List.{insert, remove}
 use Rattle.std.specs.Ordering.{eq_by_cmp, ordering_reverse, is_eq, is_lt}
 use Rattle.std.specs.declared.cmp.Ordering.{Ordering}

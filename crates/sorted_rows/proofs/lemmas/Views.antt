@@ -3,7 +3,8 @@ use Rattle.std.proofs.Common.{Result, Ok, Err, IfOk, Vec, Global, ◌≡◌, ℕ
 use Rattle.std.specs.List.{filter}
 use Rattle.std.specs.Ordering.{eq_by_cmp, is_eq}
 use Rattle.std.specs.Cmp.{alike_right, eq_by_cmp_equiv}
-use Rattle.std.specs.FinMap.{empty, get, insert, remove, find, put, is_sorted, from_sorted, same_entries_map, entries-from_sorted, entries-insert, get-from_sorted, get-remove, same_map, len-entries, empty_of_len}
+use Rattle.std.specs.FinMap.{empty, get, insert, remove, find, put, is_sorted, from_sorted, same_entries_map, entries-from_sorted, entries-insert}
+use Rattle.std.specs.FinMap.{get-from_sorted, get-remove, same_map, len-entries, empty_of_len}
 use Rattle.std.specs.FinMap.Entries.{is_sorted-put, is_sorted-where_key, find-where_key}
 use Rattle.keeper_api.specs.Batch.{changed, changed_once}
 use Rattle.keeper_api.specs.Rows.{Rows, Spot, spot_cmp, page_of, is_behind, row_of, IsPage}

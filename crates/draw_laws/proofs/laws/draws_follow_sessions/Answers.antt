@@ -1,6 +1,7 @@
 use Rattle.std.proofs.Common.{map}
 use Rattle.std.specs.List.{filter}
-use Rattle.draw_laws.proofs.OverSessions.{session_commits, session_commits_stock, session_draws_buffered, session_draws_plain, session_gives_back, session_has_digits, session_may_commit, session_may_commit_stock, session_stock_digits}
+use Rattle.draw_laws.proofs.OverSessions.{session_commits, session_commits_stock, session_draws_buffered, session_draws_plain, session_gives_back}
+use Rattle.draw_laws.proofs.OverSessions.{session_has_digits, session_may_commit, session_may_commit_stock, session_stock_digits}
 use Rattle.draw_laws.proofs.SessionDraws.{fewer_drawn, fewer_left}
 use Rattle.draw_laws.proofs.laws.draws_follow_sessions.Goals as goal
 

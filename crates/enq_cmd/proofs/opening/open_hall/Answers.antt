@@ -53,7 +53,7 @@ returns-in-Ok-open-clause-opened g c =
       stored = c.in-Ok-open.ensures.stored;
       fits = subst (λ is. FitRows is c.in-Ok-open.hall.state.stored.levels) c.into_vec.ensures c.in-Ok-open.ensures.fits;
       table = c.in-Ok-open.ensures.table;
-      filed = λ tells. let h = c.in-Ok-open.ensures.file tells in (h.lists, h.stood, h.agree);
+      filed = λ tells. let h = c.in-Ok-open.ensures.file tells in (h.freed.lists, h.freed.stood, h.freed.agree);
       told = c.in-Ok-open.ensures.told;
       counts = c.in-Ok-open.ensures.counts;
       file_counts = c.in-Ok-open.ensures.file_counts;

@@ -6,7 +6,8 @@ use Rattle.thread_runner.specs.Threads.{EndsWhole}
 use Rattle.whole_script.specs.Reading.{BlamesFirst}
 use Rattle.enq_cmd.proofs.LinkCounts.{quiet_each}
 use Rattle.enq_cmd.proofs.Served.{none_answered, none_linked, still_by}
-use Rattle.enq_cmd.proofs.ThreadEnds.{IsThreadsEnd, ends_whole, not_words, threads_broken, threads_document, threads_file, threads_full, threads_kind, threads_last, threads_place, threads_sink, threads_source, threads_store, threads_unfit}
+use Rattle.enq_cmd.proofs.ThreadEnds.{IsThreadsEnd, ends_whole, not_words, threads_broken, threads_document, threads_file, threads_full, threads_kind}
+use Rattle.enq_cmd.proofs.ThreadEnds.{threads_last, threads_place, threads_sink, threads_source, threads_store, threads_unfit}
 use Rattle.enq_cmd.proofs.ThreadRuns.{first_free, never_broken, rose_as, threads_by, threads_good, threads_linked, threads_sound, unthreaded, unthreaded_blames}
 use Rattle.enq_cmd.proofs.running.run_site.Goals as goal
 

@@ -8,12 +8,14 @@ use Rattle.enq_base.specs.declared.owner.UnitKey.{UnitKey}
 use Rattle.enq_server.specs.Recovery.{left}
 use Rattle.enq_server.proofs.Others.{units_of, left_absent, left_all, left_freed, left_none, left_stays, still, taken_units}
 use Rattle.enq_server.proofs.recovery.free_others.Goals as goal
-use Rattle.enq_server.proofs.recovery.free_others.Goals.{then-not-is_known+then-stands+in_ok-free, else-not-is_known, else-not-is_known-via-then-not-is_known+else-stands, else-not-is_known-via-else-not-is_known}
+use Rattle.enq_server.proofs.recovery.free_others.Goals.{then-not-is_known+then-stands+in_ok-free, else-not-is_known}
+use Rattle.enq_server.proofs.recovery.free_others.Goals.{else-not-is_known-via-then-not-is_known+else-stands, else-not-is_known-via-else-not-is_known}
 
 pub loop-handed-init : goal.loop-handed-init
 loop-handed-init g c = record {
   usable = c.requires.usable;
   ready = λ t units are ready. subst (IsReady g.D.Disk.reads g.D.Disk.may_leave c.args.backup.now) (sym (left_none units c.args.lists.now)) ready;
+  worn = λ t units are ready worn. worn;
   known = λ units are first. subst (AreUnits c.args.backup.now.units) (sym (left_none units c.args.lists.now)) first;
   quiet = refl;
 }
@@ -38,6 +40,8 @@ loop-handed-preserved g c =
             (left_freed units gone lists unit (sym (are c.handed-item.result.unit) ∙ sym c.is_known.ensures ∙ w.if-not-is_known.true)
             ∙ ap (λ us. left units us lists) (sym more))
             (w.in_ok-free.ensures.freed t (left units gone lists) (c.loop-handed.invariant.ready t units are ready));
+        worn = λ t units are ready worn. c.loop-handed.invariant.worn t units are ready
+            (w.in_ok-free.ensures.worn t (left units gone lists) (c.loop-handed.invariant.ready t units are ready) worn);
         known = λ units are first.
             let gone_now = left units gone lists in
             subst (AreUnits w.free.new.self.units)
@@ -57,6 +61,7 @@ loop-handed-preserved g c =
                   (sym (are c.handed-item.result.unit) ∙ sym c.is_known.ensures ∙ w'.if-not-is_known.false)
             ] ∙ ap (λ us. left units us lists) (sym more))
             (c.loop-handed.invariant.ready t units are ready);
+        worn = c.loop-handed.invariant.worn;
         known = λ units are first. subst (AreUnits c.loop-handed.backup.units)
             (elim w.else-not-is_known.branch [
               | else-not-is_known-via-then-not-is_known+else-stands w' ↦ left_absent units gone lists unit
@@ -89,3 +94,6 @@ returns-clause-known g c = λ units are first.
     (ap (λ l. left units (units_of l) c.args.lists.now) (take_all c.loop-handed.handed-index c.args.lists.now (omega (arith, c.loop-handed-test.false)))
     ∙ left_all units c.args.lists.now)
     (c.loop-handed.invariant.known units are first)
+
+pub returns-clause-worn : goal.returns-clause-worn
+returns-clause-worn g c = c.loop-handed.invariant.worn

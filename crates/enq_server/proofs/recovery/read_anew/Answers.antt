@@ -1,53 +1,67 @@
-use Rattle.std.proofs.Common.{sym, subst, ◌∙◌}
-use Rattle.std.specs.List.{All}
-use Rattle.bk_disk.specs.Disk.{Follows}
-use Rattle.backup_file.specs.Backup.{IsReady}
-use Rattle.backup_file.specs.File.{Stands}
-use Rattle.backup_file.specs.Lists.{AreUnits, HaveEntries}
-use Rattle.enq_server.specs.Faults.{Leaves}
-use Rattle.enq_server.specs.Recovery.{Agrees}
-use Rattle.enq_server.proofs.Images.{opening_leaves, some_left}
-use Rattle.enq_server.proofs.lemmas.Known.{known_locking}
+use Rattle.std.proofs.Common.{◌≡◌, List, ap, sym, subst, arith, ◌∙◌}
+use Rattle.std.specs.Prelude.{IsErrOf}
+use Rattle.enq_base.specs.Causes.{Rose}
+use Rattle.backup_file.proofs.lemmas.Adding.{left_shortened}
+use Rattle.backup_file.specs.declared.handed.Handed.{Handed}
+use Rattle.backup_file.specs.Backup.{UnlessFailed}
+use Rattle.enq_server.specs.Recovery.{AreKnown, lists_among, locking}
+use Rattle.enq_server.proofs.Images.{all_left}
 use Rattle.enq_server.proofs.recovery.read_anew.Goals as goal
 
-pub returns-in-Err-clause-images : goal.returns-in-Err-clause-images
-returns-in-Err-clause-images g c = λ t.
-    subst (λ fault. Follows (Leaves c.args.units.now fault) (g.D.Disk.may_leave c.args.backup.now.disk) (g.D.Disk.may_leave c.reopen.new.self.disk))
-    (sym c.from.ensures)
-    (opening_leaves c.args.units.now c.in-Err.fault (g.D.Disk.may_leave c.args.backup.now.disk) (g.D.Disk.may_leave c.reopen.new.self.disk)
-    (c.in-Err.ensures.images t))
+-- ---- the log was written anew
 
-pub returns-in-Ok-free_others-clause-file : goal.returns-in-Ok-free_others-clause-file
-returns-in-Ok-free_others-clause-file g c = λ t. record {
-  lists = c.as_slice-2.result.now;
-  stood = subst (Stands (g.D.Disk.reads c.args.backup.now.disk)) (sym c.as_slice-2.ensures.value) (c.in-Ok.ensures.lists t);
-  agree = subst (λ l. All (Agrees l) c.args.units.now) (c.as_slice.ensures.value ∙ sym c.as_slice-2.ensures.value) c.in-Ok-recover.ensures.agree;
-  ready = c.in-Ok-free_others.ensures.freed t c.args.units.now c.in-Ok-recover.ensures.known
-      (subst (IsReady g.D.Disk.reads g.D.Disk.may_leave c.reopen.new.self) (sym c.as_slice-2.ensures.value) (c.in-Ok.ensures.ready t));
-}
+pub returns-in-Ok-compact-clause-file : goal.returns-in-Ok-compact-clause-file
+returns-in-Ok-compact-clause-file g c = λ t.
+    let r = c.in-Ok.ensures.file t in
+    let lists : List Handed = lists_among c.args.units.now r.lists in
+    record {
+      freed = record { lists = r.lists; stood = r.stood; agree = r.agree; ready = c.in-Ok-compact.ensures.ready t lists r.ready };
+      shortened = left_shortened (g.D.Disk.reads c.args.backup.now.disk) (g.D.Disk.reads c.read_freed.new.backup.disk)
+          (g.D.Disk.reads c.compact.new.self.disk) lists (c.in-Ok.ensures.worn t) (c.in-Ok-compact.ensures.done t lists r.ready);
+    }
 
-pub returns-in-Ok-free_others-clause-images : goal.returns-in-Ok-free_others-clause-images
-returns-in-Ok-free_others-clause-images g c = λ t.
-    some_left c.args.units.now (g.D.Disk.reads c.args.backup.now.disk) c.as_slice-2.result.now (g.D.Disk.may_leave c.args.backup.now.disk) _
-    (subst (Stands (g.D.Disk.reads c.args.backup.now.disk)) (sym c.as_slice-2.ensures.value) (c.in-Ok.ensures.lists t))
-    (g.met.D.Disk.reads_left c.args.backup.now.disk t)
-    (c.in-Ok-free_others.ensures.images t c.args.units.now c.in-Ok-recover.ensures.known
-    (subst (IsReady g.D.Disk.reads g.D.Disk.may_leave c.reopen.new.self) (sym c.as_slice-2.ensures.value) (c.in-Ok.ensures.ready t)))
+pub returns-in-Ok-compact-clause-known : goal.returns-in-Ok-compact-clause-known
+returns-in-Ok-compact-clause-known g c = subst (λ us. AreKnown us (locking c.args.units.now)) (sym c.compact.ensures.units) c.in-Ok.ensures.known
+
+pub returns-in-Ok-compact-clause-images : goal.returns-in-Ok-compact-clause-images
+returns-in-Ok-compact-clause-images g c = λ t.
+    let r = c.in-Ok.ensures.file t in
+    all_left c.args.units.now (g.D.Disk.reads c.args.backup.now.disk) r.lists (g.D.Disk.may_leave c.args.backup.now.disk) _ r.stood
+    (g.met.D.Disk.reads_left c.args.backup.now.disk t) (c.compact.ensures.images t (lists_among c.args.units.now r.lists) r.ready)
+
+pub returns-in-Ok-compact-clause-quiet : goal.returns-in-Ok-compact-clause-quiet
+returns-in-Ok-compact-clause-quiet g c = c.in-Ok-compact.ensures.cause.quiet ∙ c.in-Ok.ensures.quiet
+
+-- ---- the disk failed
+
+pub returns-in-Err-Failed-clause-images : goal.returns-in-Err-Failed-clause-images
+returns-in-Err-Failed-clause-images g c = λ t.
+    let r = c.in-Ok.ensures.file t in
+    all_left c.args.units.now (g.D.Disk.reads c.args.backup.now.disk) r.lists (g.D.Disk.may_leave c.args.backup.now.disk) _ r.stood
+    (g.met.D.Disk.reads_left c.args.backup.now.disk t) (c.compact.ensures.images t (lists_among c.args.units.now r.lists) r.ready)
+
+pub returns-in-Err-Failed-clause-shut : goal.returns-in-Err-Failed-clause-shut
+returns-in-Err-Failed-clause-shut g c = c.compact.ensures.failed (subst (λ e. IsErrOf c.compact.result e) c.in-Err-Failed.field-0-is c.in-Err-Failed.is)
+
+pub returns-in-Err-Failed-clause-cause : goal.returns-in-Err-Failed-clause-cause
+returns-in-Err-Failed-clause-cause g c = (
+  omega (arith, c.in-Ok.ensures.quiet, c.compact.ensures.cause.later),
+  subst (λ n. Rose n (g.D.Disk.faults c.compact.new.self.disk)) c.in-Ok.ensures.quiet
+      (c.compact.ensures.cause.failed (subst (λ e. IsErrOf c.compact.result e) c.in-Err-Failed.field-0-is c.in-Err-Failed.is)),
+)
+
+-- ---- memory was wanting
 
 pub returns-clause-images : goal.returns-clause-images
 returns-clause-images g c = λ t.
-    some_left c.args.units.now (g.D.Disk.reads c.args.backup.now.disk) c.as_slice-2.result.now (g.D.Disk.may_leave c.args.backup.now.disk) _
-    (subst (Stands (g.D.Disk.reads c.args.backup.now.disk)) (sym c.as_slice-2.ensures.value) (c.in-Ok.ensures.lists t))
-    (g.met.D.Disk.reads_left c.args.backup.now.disk t)
-    (c.in-Err-free_others.ensures.images t c.args.units.now c.in-Ok-recover.ensures.known
-    (subst (IsReady g.D.Disk.reads g.D.Disk.may_leave c.reopen.new.self) (sym c.as_slice-2.ensures.value) (c.in-Ok.ensures.ready t)))
+    let r = c.in-Ok.ensures.file t in
+    all_left c.args.units.now (g.D.Disk.reads c.args.backup.now.disk) r.lists (g.D.Disk.may_leave c.args.backup.now.disk) _ r.stood
+    (g.met.D.Disk.reads_left c.args.backup.now.disk t) (λ image may. c.compact.ensures.images t (lists_among c.args.units.now r.lists) r.ready image
+    (subst (λ d. g.D.Disk.may_leave d image) c.shut.ensures.disk may))
 
-pub returns-in-Ok-free_others-clause-known : goal.returns-in-Ok-free_others-clause-known
-returns-in-Ok-free_others-clause-known g c =
-    let lists = c.as_slice-2.result.now in
-    let read = sym c.as_slice-2.ensures.value in
-    known_locking c.free_others.new.backup.units lists c.args.units.now
-    (c.in-Ok-free_others.ensures.known c.args.units.now c.in-Ok-recover.ensures.known
-    (subst (AreUnits c.reopen.new.self.units) read c.in-Ok.ensures.units))
-    (subst HaveEntries read c.in-Ok.ensures.some)
-    (subst (λ l. All (Agrees l) c.args.units.now) (c.as_slice.ensures.value ∙ sym c.as_slice-2.ensures.value) c.in-Ok-recover.ensures.agree)
+pub returns-clause-cause : goal.returns-clause-cause
+returns-clause-cause g c =
+    let none = subst (λ e. IsErrOf c.compact.result e) c.in-Err-NoMemory.field-0-is c.in-Err-NoMemory.is in
+    ap g.D.Disk.faults c.shut.ensures.disk
+    ∙ subst (λ r. UnlessFailed r (g.D.Disk.faults c.compact.new.self.disk ≡ g.D.Disk.faults c.read_freed.new.backup.disk)) none c.compact.ensures.cause.quiet
+    ∙ c.in-Ok.ensures.quiet

@@ -3,7 +3,8 @@ use Rattle.number_ranges.specs.Intervals.{with_level}
 use Rattle.number_ranges.specs.declared.interval.Interval.{Interval}
 use Rattle.ledger_steps.specs.Drawn.{drawn_of, settled_rows, stored_as}
 use Rattle.hall_calls.proofs.verdicts.Recording.{AreNone, settled_between, settled_buffered, settled_more, settled_none}
-use Rattle.hall_calls.proofs.numbers.settled_rows.Goals.{then-interval-eq0+then-drawn-gt0+in_ok-push, else-interval-eq0, else-interval-eq0-via-then-interval-eq0+else-drawn-gt0, else-interval-eq0-via-else-interval-eq0}
+use Rattle.hall_calls.proofs.numbers.settled_rows.Goals.{then-interval-eq0+then-drawn-gt0+in_ok-push, else-interval-eq0}
+use Rattle.hall_calls.proofs.numbers.settled_rows.Goals.{else-interval-eq0-via-then-interval-eq0+else-drawn-gt0, else-interval-eq0-via-else-interval-eq0}
 use Rattle.hall_calls.proofs.numbers.settled_rows.Goals as goal
 
 pub loop-place-init : goal.loop-place-init

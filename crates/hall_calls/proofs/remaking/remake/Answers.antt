@@ -24,7 +24,8 @@ use Rattle.hall_calls.proofs.replica.EachCall.{any_link}
 use Rattle.hall_calls.proofs.lemmas.GoodFiles.{ready_sound}
 use Rattle.hall_calls.proofs.restarting.MadeAnew.{found_stands, left_recovers, not_remade, remade_lists, remake_counts, remake_quiet, remakes, restarts_up, sessions_kept}
 use Rattle.hall_calls.proofs.restarting.OverRead.{found_sound, made_leaves, may_have_read, read_ledger, read_right, read_store, taken_same, usable_made}
-use Rattle.hall_calls.proofs.restarting.NotMade.{IsOf, all_not_remade, all_refused_first, not_up, unread_acts, unread_apart, unread_cause, unread_file, unread_left, unread_sound, unread_stands, unread_store, unread_usable}
+use Rattle.hall_calls.proofs.restarting.NotMade.{IsOf, all_not_remade, all_refused_first, not_up, unread_acts, unread_apart, unread_cause, unread_file}
+use Rattle.hall_calls.proofs.restarting.NotMade.{unread_left, unread_sound, unread_stands, unread_store, unread_usable}
 use Rattle.hall_calls.proofs.remaking.remake.Goals as goal
 
 pub returns-in-Up : goal.returns-in-Up

@@ -3,7 +3,9 @@ use Rattle.hall_model.specs.declared.command.Reply.TheVariants as reply
 use Rattle.hall_calls.specs.Commits.{TellsNoFault}
 use Rattle.hall_calls.proofs.verdicts.UnitCalls.{commits_full, commits_nothing, commits_too_much, commits_unknown}
 use Rattle.hall_calls.proofs.verdicts.Recording.{few_enough, nothing_there, some_effects, some_numbers, together, too_large, too_many}
-use Rattle.hall_calls.proofs.units.to_commit.Goals.{else-effects-eq0-via-then-effects-eq0+else-drawn-eq0, else-effects-eq0-via-else-effects-eq0, then-drawn-gt-DRAWS_LIMIT-via-then-drawn-gt-DRAWS_LIMIT, then-drawn-gt-DRAWS_LIMIT-via-else-drawn-gt-DRAWS_LIMIT+then-effects-gt-EFFECTS_LIMIT}
+use Rattle.hall_calls.proofs.units.to_commit.Goals.{else-effects-eq0-via-then-effects-eq0+else-drawn-eq0, else-effects-eq0-via-else-effects-eq0}
+use Rattle.hall_calls.proofs.units.to_commit.Goals.{then-drawn-gt-DRAWS_LIMIT-via-then-drawn-gt-DRAWS_LIMIT}
+use Rattle.hall_calls.proofs.units.to_commit.Goals.{then-drawn-gt-DRAWS_LIMIT-via-else-drawn-gt-DRAWS_LIMIT+then-effects-gt-EFFECTS_LIMIT}
 use Rattle.hall_calls.proofs.units.to_commit.Goals as goal
 
 pub returns-in-Err-clause-answer : goal.returns-in-Err-clause-answer

@@ -1,6 +1,7 @@
 use Rattle.std.proofs.Common.{◌∙◌}
 use Rattle.remote_sending.specs.Sends.{ended_as}
-use Rattle.remote_sending.proofs.Ends.{closed_by_outbox, closed_by_system, failed_not_done, keeper_sink_calm, keeper_system_calm, never_bad_words, not_bad_words, on_done, outbox_calm, rises_from, run_sent, sink_calm, stand_done, system_calm}
+use Rattle.remote_sending.proofs.Ends.{closed_by_outbox, closed_by_system, failed_not_done, keeper_sink_calm, keeper_system_calm, never_bad_words}
+use Rattle.remote_sending.proofs.Ends.{not_bad_words, on_done, outbox_calm, rises_from, run_sent, sink_calm, stand_done, system_calm}
 use Rattle.remote_sending.proofs.sending.send_all.Goals as goal
 
 pub returns-in-Err-clause-ends : goal.returns-in-Err-clause-ends

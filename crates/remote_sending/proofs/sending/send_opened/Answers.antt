@@ -1,6 +1,7 @@
 use Rattle.std.proofs.Common.{None, ◌∙◌}
 use Rattle.remote_sending.specs.Sends.{ended_as, why_behind}
-use Rattle.remote_sending.proofs.Ends.{all_stand, calm_outbox_from, calm_sink, good_now, missed_now, no_bad_row, none_executed, nothing_written, on_ok, opened_grown, opened_stopped, opened_told, outbox_is_opened, rises_from, sliced}
+use Rattle.remote_sending.proofs.Ends.{all_stand, calm_outbox_from, calm_sink, good_now, missed_now, no_bad_row, none_executed, nothing_written, on_ok}
+use Rattle.remote_sending.proofs.Ends.{opened_grown, opened_stopped, opened_told, outbox_is_opened, rises_from, sliced}
 use Rattle.remote_sending.proofs.Ends.{send_is_opened, sink_is_send, vec_few, vec_long}
 use Rattle.remote_sending.proofs.Lines.{first_none}
 use Rattle.remote_sending.proofs.sending.send_opened.Goals as goal

@@ -19,6 +19,7 @@ loop-actor-preserved g c =
     let so_far = inv.parts in
     let whole = subst (λ (l : List X). All (λ (a : X). IsPassOf c.args.lock.now a.pass) l) was inv.actors in record {
       own = c.join-pass.ensures.own;
-      actors = λ k d lt. subst (λ (a : X). IsPassOf c.args.lock.now a.pass) (get_or_append_left rest (c.in-Some.actor ∷ []) d k lt) (whole k d (omega (arith, length-append rest (c.in-Some.actor ∷ []))));
+      actors = λ k d lt. subst (λ (a : X). IsPassOf c.args.lock.now a.pass) (get_or_append_left rest (c.in-Some.actor ∷ []) d k lt)
+          (whole k d (omega (arith, length-append rest (c.in-Some.actor ∷ []))));
       parts = omega arith;
     }

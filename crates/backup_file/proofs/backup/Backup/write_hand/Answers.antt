@@ -41,3 +41,4 @@ returns-clause-handed g c = λ t unit es ready_for l ready.
     ready_after g.D.Disk.reads g.D.Disk.may_leave l r ready.front ready.is_front ready_for.is_record
     (distinct_handed (user_of es) es ready_for.distinct) c.keep.new.self (rw (c.keep.ensures.disk, c.keep.ensures.gate) added)
     (units-hand c.args.self.now.units c.keep.new.self.units l h ready.units (returns-clause-units g c unit es ready_for))
+    (c.keep.ensures.compact ∙ c.add.ensures.unknown)

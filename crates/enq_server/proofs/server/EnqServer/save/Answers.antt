@@ -1,4 +1,4 @@
-use Rattle.std.proofs.Common.{◌⊎◌, ◌||◌, List, length, inl, ap, sym, subst, ◌∙◌, arith}
+use Rattle.std.proofs.Common.{◌⊎◌, ◌||◌, ◌≤◌, ◌<◌, List, length, inl, ap, sym, subst, ◌∙◌, arith}
 use Rattle.lock_entry.specs.declared.entry.Entry.{Entry}
 use Rattle.backup_file.specs.Backup.{IsReady}
 use Rattle.backup_file.specs.File.{Stands}
@@ -6,7 +6,7 @@ use Rattle.backup_file.specs.Lists.{is_known}
 use Rattle.enq_base.specs.Owners.{same_unit}
 use Rattle.enq_server.specs.Server.{lasting, of_user, table_of, with_list}
 use Rattle.enq_server.proofs.lemmas.Known.{with_none, with_written}
-use Rattle.enq_server.proofs.Lasting.{length-user, listed_either}
+use Rattle.enq_server.proofs.Lasting.{length-user, listed, listed_either, unlisted}
 use Rattle.enq_server.proofs.server.EnqServer.save.Goals as goal
 use Rattle.enq_server.proofs.server.EnqServer.save.Goals.{then-count-gt0+in_ok-hand, else-count-gt0}
 
@@ -61,4 +61,27 @@ returns-clause-known g c =
           ∙ ap (λ b. same_unit unit other || is_known other b.units) before)
       | else-count-gt0 w ↦ with_none unit own c.args.self.now.file.units _
           (omega (arith, long, c.len.ensures, c.in-Ok.ensures.1, w.if-count-gt0.false)) (λ other. ap (λ s. is_known other s.file.units) w.self-is)
+    ]
+
+pub returns-clause-saved : goal.returns-clause-saved
+returns-clause-saved g c = λ t l ready.
+    let is_ready = IsReady g.D.Disk.reads g.D.Disk.may_leave in
+    let unit = c.args.unit.now in
+    let own : List Entry = of_user c.args.user.now (lasting unit c.args.self.now.table.entries) in
+    let before = ap (λ s. s.rest.file) c.self-inside.view_is ∙ ap (λ s. s.file) c.self.view_is in
+    let inside = subst (λ b. is_ready b l) (sym before) ready in
+    let are =
+    c.in_ok-entries.ensures.entries
+    ∙ ap (λ s. of_user c.args.user.now (lasting unit (table_of g.T.LockStore.table s.table).entries)) c.self-inside.view_is
+    ∙ ap (λ s. of_user c.args.user.now (lasting unit s.table.entries)) c.self.view_is in
+    elim c.if-count-gt0.branch [
+      | then-count-gt0+in_ok-hand w ↦
+          let some : 1 ≤ length w.as_slice.result.now = omega (arith, w.as_slice.ensures.len, c.len.ensures, c.in-Ok.ensures.1, w.if-count-gt0.true) in
+          subst (λ s. is_ready s.file (with_list unit own l)) (sym w.self-is)
+          (subst (λ es. is_ready w.hand.new.self (with_list unit es l)) (w.as_slice.ensures.value ∙ are)
+          (subst (is_ready w.hand.new.self) (sym (listed unit w.as_slice.result.now l some)) (w.in_ok-hand.ensures.handed t l inside)))
+      | else-count-gt0 w ↦
+          let none : length own < 1 = omega (arith, ap length are, c.len.ensures, c.in-Ok.ensures.1, w.if-count-gt0.false) in
+          subst (λ s. is_ready s.file (with_list unit own l)) (sym w.self-is)
+          (subst (is_ready c.args.self.now.file) (sym (unlisted unit own l none)) ready)
     ]

@@ -1,4 +1,4 @@
-use Rattle.std.proofs.Common.{◌≡◌, ◌∙◌, refl, sym, ap, subst, is_some, true}
+use Rattle.std.proofs.Common.{◌≡◌, ◌∙◌, inl, refl, sym, ap, subst, is_some, true}
 use Rattle.std.specs.Prelude.{IfSome}
 use Rattle.keeper_api.specs.Keeping.{IsWithin}
 use Rattle.keeper_api.specs.Rows.{Rows}
@@ -6,8 +6,9 @@ use Rattle.posting.specs.Reopening.{HasStood, MayBeLeftBy}
 use Rattle.ledger_steps.specs.Starts.{IsRaised}
 use Rattle.ledger_steps.specs.Levels.{intervals_of}
 use Rattle.store_reading.specs.Good.{IsSound}
-use Rattle.hall.proofs.Refused.{books_file, books_file_counts, books_why, err_more, err_two, held_more, late_bad, late_counts, late_file, late_kept, late_left, late_may, late_why, ok_more, ok_two, where_held}
-use Rattle.hall.specs.Faults.{CountsFileFault, IsBadFile, IsHallFault, IsLateFault}
+use Rattle.hall.proofs.Refused.{books_file, books_file_counts, books_left, books_why, err_more, err_two, held_more, images_stay, late_bad, late_counts}
+use Rattle.hall.proofs.Refused.{late_file, late_kept, late_left, late_may, late_why, ok_more, ok_two, where_held}
+use Rattle.hall.specs.Faults.{CountsFileFault, IsBadFile, IsHallFault, IsLateFault, LeavesFileOf}
 use Rattle.hall_model.specs.State.{State, opened}
 use Rattle.hall.proofs.hall.Hall.open.Goals as goal
 
@@ -118,6 +119,18 @@ returns-clause-images g c = λ t.
     (λ e f k. late_left books.ledger (held e.1) before e.0 (may_leave c.args.disk) (may_leave e.2) c.in-Ok-open.ensures.sound
     (subst (λ q. IfSome (held q) (λ _. IsRaised (HasStood before) true books.ledger)) (sym k) c.in-Ok-open.ensures.ledger) f)
     (c.over.ensures.images t) c.over.ensures.kept
+
+pub returns-in_default-clause-images : goal.returns-in_default-clause-images
+returns-in_default-clause-images g c = λ t. inl (images_stay (g.D.Disk.may_leave c.args.disk))
+
+pub returns-in_default-new-clause-images : goal.returns-in_default-new-clause-images
+returns-in_default-new-clause-images g c = λ t. inl (images_stay (g.D.Disk.may_leave c.args.disk))
+
+pub returns-in-Err-clause-images : goal.returns-in-Err-clause-images
+returns-in-Err-clause-images g c = λ t.
+    let images = g.D.Disk.may_leave c.args.disk in
+    subst (λ f. LeavesFileOf (g.K.Keeper.held c.in-Err.keeper) (g.K.Keeper.may_leave c.args.keeper) f images images) (sym c.fault_of.ensures)
+    (books_left (g.K.Keeper.held c.in-Err.keeper) (g.K.Keeper.may_leave c.args.keeper) c.in-Err.fault images)
 
 pub returns-in-Err-clause-file_fault : goal.returns-in-Err-clause-file_fault
 returns-in-Err-clause-file_fault g c = λ t.

@@ -1,4 +1,4 @@
-use Rattle.std.proofs.Common.{rules, inl, inr, refl, subst, ◌∙◌, is_some}
+use Rattle.std.proofs.Common.{rules, inl, inr, refl, sym, subst, ◌∙◌, is_some}
 use Rattle.enq_server.specs.Recovery.{AreKnown, locking}
 use Rattle.enq_server.specs.Server.{IsRecovered}
 use Rattle.ledger_steps.specs.Levels.{FitRows, intervals_of}
@@ -6,7 +6,7 @@ use Rattle.hall_calls.proofs.lemmas.OfOpenUnits.{recovered_lists}
 use Rattle.hall_calls.proofs.lemmas.WaitingLists.{known_waiting}
 use Rattle.ledger_steps.specs.Views.{open_locks}
 use Rattle.hall.specs.Faults.{IsFileFault}
-use Rattle.hall.proofs.Refused.{ranges_file_counts, ranges_left}
+use Rattle.hall.proofs.Refused.{others_stay, ranges_file_counts, ranges_left}
 use Rattle.hall_model.specs.State.{opened}
 use Rattle.hall.proofs.hall.Hall.over.Goals as goal
 
@@ -50,6 +50,16 @@ returns-in-Ok-first_locks-clause-state g c =
     (is_some (g.K.Keeper.held c.args.books.keeper))
     (is_some (g.L.Link.applied (c.in-Ok-first_locks.ensures.link i))) c.args.books.ledger)
 
+pub returns-in-Ok-first_locks-clause-file : goal.returns-in-Ok-first_locks-clause-file
+returns-in-Ok-first_locks-clause-file g c = λ t.
+    let reads = g.D.Disk.reads in
+    let may_leave = g.D.Disk.may_leave in
+    let bytes = reads c.args.disk in
+    let file = c.in-Ok-first_locks.locks.file in
+    let are = c.as_slice.ensures.value ∙ c.in-Ok.ensures in
+    subst (IsRecovered reads may_leave bytes (open_locks c.args.books.ledger)) (sym c.first.ensures.file)
+    (subst (λ us. IsRecovered reads may_leave bytes us file) are (c.in-Ok-first_locks.ensures.file t))
+
 pub returns-in-Err-first_locks-clause-fault : goal.returns-in-Err-first_locks-clause-fault
 returns-in-Err-first_locks-clause-fault g c =
     let tells = g.D.Disk.tells in
@@ -57,3 +67,6 @@ returns-in-Err-first_locks-clause-fault g c =
     let are = c.as_slice.ensures.value ∙ c.in-Ok.ensures in
     let fit : FitRows (intervals_of c.args.ranges) c.args.books.ledger.levels = search rules in
     inr (fit, subst (λ us. IsFileFault tells bytes us c.in-Err-first_locks.fault) are c.in-Err-first_locks.ensures.fault)
+
+pub returns-in_default-open_units-clause-images : goal.returns-in_default-open_units-clause-images
+returns-in_default-open_units-clause-images g c = λ t. others_stay (open_locks c.args.books.ledger) (g.D.Disk.may_leave c.args.disk)
